@@ -1,0 +1,4 @@
+pub mod Integers
+pub mod Machine
+pub mod Rectangles
+pub mod Theorems

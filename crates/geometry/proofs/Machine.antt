@@ -1,0 +1,87 @@
+-- What the machine reads back of signed numbers and rectangles, and the tests as the code makes them.
+use mathlib.Core.Path.{_≡_, refl, sym, ap, ap₂, _∙_}
+use mathlib.Core.Bool.{Bool, true, false, not}
+use Prim.Native.Nat.{ℕ, _*_, _<_}
+use native.Mathlib.Nat.{mul-le-mul, lt-of-le-of-lt, le-pred-of-lt}
+use lib.Dec.{T, lit<}
+use lib.IntN.{ℤ, natAbs, _-ℤ_}
+use lib.Signed.{leZ, ltZ, nonNeg, _≤ℤ_}
+use borrow.Author.Tests.{not-true, not-false}
+use mir.Syntax.{Width, w32, w64}
+use mir.Val.{SFits, Fits, toZ, ofZ}
+use mir.Facts.{toZ-ofZ}
+use Rattle.geometry.specs.declared.Rect.{Rect}
+use Rattle.geometry.specs.declared.Meeting.the-variants.{Apart, Common}
+use Rattle.geometry.specs.Rectangles.{common, nonempty, meets, meeting, inReach}
+use Rattle.geometry.proofs.Integers.{zarith, sub-law, one-side, size-law, nonNeg-law, →sfits, sfits→}
+
+-- ---- what the machine reads back, and a record by its fields
+pub read-back : {w : Width} {z y : ℤ} → SFits w z → z ≡ y → toZ w (ofZ w z) ≡ y
+read-back f e = toZ-ofZ f ∙ e
+
+pub rect-eq : {a b : Rect} → a .left ≡ b .left → a .bottom ≡ b .bottom → a .right ≡ b .right → a .top ≡ b .top → a ≡ b
+rect-eq p q r s = λ i. record { left = p i; bottom = q i; right = r i; top = s i }
+
+-- two numbers with the same bits, which is what `==` on signed numbers tells
+pub of-bits : {w : Width} {x y : ℤ} → SFits w x → SFits w y → ofZ w x ≡ ofZ w y → x ≡ y
+of-bits {w} f g e = sym (toZ-ofZ f) ∙ ap (toZ w) e ∙ toZ-ofZ g
+
+pub read-back₂ : {w : Width} (f : ℤ → ℤ → ℤ) {z x y : ℤ} → SFits w z → SFits w x → SFits w y → z ≡ f (toZ w (ofZ w x)) (toZ w (ofZ w y)) → toZ w (ofZ w z) ≡ f x y
+read-back₂ f fz fx fy e = toZ-ofZ fz ∙ e ∙ ap₂ f (toZ-ofZ fx) (toZ-ofZ fy)
+
+-- each coordinate fits
+pub record Fitting (r : Rect) : Type 0 where
+  pub left : SFits w32 (r .left)
+  pub bottom : SFits w32 (r .bottom)
+  pub right : SFits w32 (r .right)
+  pub top : SFits w32 (r .top)
+
+-- ---- tests, as the code makes them
+pub read-le : {w : Width} {x y : ℤ} {t : Bool} → SFits w x → SFits w y → leZ (toZ w (ofZ w x)) (toZ w (ofZ w y)) ≡ t → leZ x y ≡ t
+read-le f g e = sym (ap₂ leZ (toZ-ofZ f) (toZ-ofZ g)) ∙ e
+
+pub read-lt : {w : Width} {x y : ℤ} {t : Bool} → SFits w x → SFits w y → ltZ (toZ w (ofZ w x)) (toZ w (ofZ w y)) ≡ t → ltZ x y ≡ t
+read-lt f g e = sym (ap₂ ltZ (toZ-ofZ f) (toZ-ofZ g)) ∙ e
+
+pub some-then : (r : Rect) → leZ (r .left) (r .right) ≡ true → leZ (r .bottom) (r .top) ≡ nonempty r
+unfolding nonempty
+some-then r e = rw e
+
+pub some-else : (r : Rect) → leZ (r .left) (r .right) ≡ false → false ≡ nonempty r
+unfolding nonempty
+some-else r e = rw e
+
+module _ (a b c : Rect) (t : Bool) (made : c ≡ common a b) (told : t ≡ nonempty c) where
+  pub meet-then : t ≡ true → Common c ≡ meeting a b
+  unfolding meeting meets
+  meet-then e = cc
+
+  pub meet-else : t ≡ false → Apart ≡ meeting a b
+  unfolding meeting meets
+  meet-else e = cc
+
+pub reach-yes : {z : ℤ} {v : Bool} → SFits w32 z → v ≡ inReach (toZ w32 (ofZ w32 z)) → not v ≡ false → inReach z ≡ true
+reach-yes {z} {v} f e h = sym (ap inReach (toZ-ofZ f)) ∙ sym e ∙ not-false v h
+
+pub reach-no : {z : ℤ} {v : Bool} → SFits w32 z → v ≡ inReach (toZ w32 (ofZ w32 z)) → not v ≡ true → inReach z ≡ false
+reach-no {z} {v} f e h = sym (ap inReach (toZ-ofZ f)) ∙ sym e ∙ not-true v h
+
+-- ---- differences of 32-bit numbers, taken in 64 bits
+module _ {a b : ℤ} (f : SFits w32 a) (g : SFits w32 b) where
+  pub rise-fits : SFits w64 (b -ℤ a)
+  rise-fits = →sfits w64 (b -ℤ a) (omega (zarith, sfits→ w32 a f, sfits→ w32 b g, sub-law b a, one-side (b -ℤ a), one-side a, one-side b))
+
+  pub rise-small : natAbs (b -ℤ a) < 4294967296
+  rise-small = omega (zarith, sfits→ w32 a f, sfits→ w32 b g, sub-law b a, one-side (b -ℤ a), one-side a, one-side b, size-law (b -ℤ a))
+
+pub rise-up : {a b : ℤ} → a ≤ℤ b → T (nonNeg (b -ℤ a))
+rise-up {a} {b} h = nonNeg-law (b -ℤ a) (omega (zarith, sub-law b a, one-side (b -ℤ a)))
+
+pub read-span : {a b : ℤ} → SFits w32 a → SFits w32 b → natAbs (toZ w32 (ofZ w32 b) -ℤ toZ w32 (ofZ w32 a)) ≡ natAbs (b -ℤ a)
+read-span f g = ap₂ (λ (y x : ℤ). natAbs (y -ℤ x)) (toZ-ofZ g) (toZ-ofZ f)
+
+pub span-either : (a b : ℤ) → natAbs (a -ℤ b) ≡ natAbs (b -ℤ a)
+span-either a b = omega (zarith, sub-law b a, sub-law a b, one-side (b -ℤ a), one-side (a -ℤ b), size-law (b -ℤ a), size-law (a -ℤ b))
+
+pub square-fits : {m n : ℕ} → m < 4294967296 → n < 4294967296 → Fits w64 (m * n)
+square-fits {m} {n} p q = record { fits = lt-of-le-of-lt (mul-le-mul (le-pred-of-lt p) (le-pred-of-lt q)) (lit< tt) }

@@ -1,0 +1,13 @@
+-- The promises on common ground hold.
+use Rattle.geometry.specs.Theorems.{CommonGround}
+use Rattle.geometry.proofs.Rectangles.{common-comm, common-assoc, common-same, in-both, in-common, meets-point, point-meets, area-small}
+
+pub common-ground : CommonGround
+common-ground = record {
+  both = λ x y a b. (in-both x y a b, λ h. in-common x y a b (h .0) (h .1));
+  meet = λ a b. (meets-point a b, λ h. point-meets a b (h .0) (h .1) (h .2 .0) (h .2 .1));
+  commutative = common-comm;
+  associative = common-assoc;
+  idempotent = common-same;
+  area = area-small;
+}

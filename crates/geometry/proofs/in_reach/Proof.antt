@@ -1,0 +1,22 @@
+use borrow.Author.Needs.{needs}
+use mir.Syntax.{w32}
+use mir.Facts.{toZ-ofZ}
+use Rattle.geometry.specs.Rectangles.{inReach}
+use Rattle.geometry.proofs.in_reach.Statement.{statement}
+use Rattle.geometry.proofs.in_reach.Tie as tie
+use Rattle.geometry.proofs.in_reach.Reads as reads
+use Rattle.geometry.proofs.in_reach.Lts as lts
+
+sub-if1 : tie.Need-sub-if1
+sub-if1 c = search needs
+
+returns : tie.Need-returns
+unfolding inReach
+returns c = cc (toZ-ofZ {w = w32} (c .before .fits .z))
+
+returns-2 : tie.Need-returns-2
+unfolding inReach
+returns-2 c = cc (toZ-ofZ {w = w32} (c .before .fits .z))
+
+pub in-reach-spec : {M : Type 1} → statement M
+in-reach-spec = tie.close (tie.spec sub-if1 returns returns-2)

@@ -1,0 +1,18 @@
+use mir.Syntax.{w32}
+use mir.Facts.{toZ-ofZ}
+use Rattle.geometry.specs.Rectangles.{maxZ}
+use Rattle.geometry.proofs.max_of.Statement.{statement}
+use Rattle.geometry.proofs.max_of.Tie as tie
+use Rattle.geometry.proofs.max_of.Reads as reads
+use Rattle.geometry.proofs.max_of.Lts as lts
+
+returns : tie.Need-returns
+unfolding maxZ
+returns c = cc (toZ-ofZ {w = w32} (c .before .fits .a), toZ-ofZ {w = w32} (c .before .fits .b))
+
+returns-2 : tie.Need-returns-2
+unfolding maxZ
+returns-2 c = cc (toZ-ofZ {w = w32} (c .before .fits .a), toZ-ofZ {w = w32} (c .before .fits .b))
+
+pub max-of-spec : {M : Type 1} → statement M
+max-of-spec = tie.close (tie.spec returns returns-2)

@@ -1,0 +1,62 @@
+-- Closed rectangles (01, "The plan" and "The table").
+use mathlib.Core.Bool.{Bool, true, false, _&&_}
+use Prim.Native.Nat.{ℕ, _*_}
+use lib.IntN.{ℤ, pos, negℤ, natAbs, _-ℤ_}
+use lib.Signed.{leZ, _≤ℤ_}
+use Rattle.geometry.specs.declared.Rect.{Rect}
+use Rattle.geometry.specs.declared.Meeting.{Meeting}
+use Rattle.geometry.specs.declared.Meeting.the-variants.{Apart, Common}
+
+-- the point x, y lies in the rectangle. 01: "Edges belong to the rectangles, so touching counts."
+pub record In (x y : ℤ) (r : Rect) : Type 0 where
+  pub left : r .left ≤ℤ x
+  pub right : x ≤ℤ r .right
+  pub bottom : r .bottom ≤ℤ y
+  pub top : y ≤ℤ r .top
+
+-- the first where the test passed, else the second
+abbrev pub pickZ : Bool → ℤ → ℤ → ℤ
+pickZ true a b = a
+pickZ false a b = b
+
+unfoldable pub maxZ : ℤ → ℤ → ℤ
+maxZ a b = pickZ (leZ a b) b a
+
+unfoldable pub minZ : ℤ → ℤ → ℤ
+minZ a b = pickZ (leZ a b) a b
+
+-- the intersection: the points in both (specs/Theorems.antt, `both`)
+unfoldable pub common : Rect → Rect → Rect
+common a b =
+    record { left = maxZ (a .left) (b .left); bottom = maxZ (a .bottom) (b .bottom); right = minZ (a .right) (b .right); top = minZ (a .top) (b .top) }
+
+-- 01: "left ≤ right, bottom ≤ top"; such a rectangle holds a point
+unfoldable pub nonempty : Rect → Bool
+nonempty r = leZ (r .left) (r .right) && leZ (r .bottom) (r .top)
+
+-- the two have a common point (specs/Theorems.antt, `meet`)
+unfoldable pub meets : Rect → Rect → Bool
+meets a b = nonempty (common a b)
+
+abbrev pub pickMeeting : Bool → Meeting → Meeting → Meeting
+pickMeeting true a b = a
+pickMeeting false a b = b
+
+-- the common rectangle of two that meet
+unfoldable pub meeting : Rect → Rect → Meeting
+meeting a b = pickMeeting (meets a b) (Common (common a b)) Apart
+
+-- 01: "Each coordinate is from −1,000,000 to 1,000,000"
+abbrev pub reach : ℤ
+reach = pos 1000000
+
+unfoldable pub inReach : ℤ → Bool
+inReach z = leZ (negℤ reach) z && leZ z reach
+
+-- a rectangle that cause 4 lets through: coordinates in range, left ≤ right and bottom ≤ top
+unfoldable pub inRange : Rect → Bool
+inRange r = inReach (r .left) && inReach (r .bottom) && inReach (r .right) && inReach (r .top) && nonempty r
+
+-- 01: "width times its height in square millimetres"
+unfoldable pub areaOf : Rect → ℕ
+areaOf r = natAbs (r .right -ℤ r .left) * natAbs (r .top -ℤ r .bottom)

@@ -1,0 +1,5 @@
+pub mod Join
+pub mod Table
+pub mod RowCall
+pub mod Theorems
+pub mod Grounds

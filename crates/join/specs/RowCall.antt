@@ -1,0 +1,66 @@
+-- The row call (01, "The table"): "takes a plan and lent cells and returns the guard's layer and the area of the row in them".
+use mathlib.Core.List.{List, [], _∷_}
+use mathlib.Core.Bool.{Bool, true, false, _&&_}
+use Prim.Native.Nat.{ℕ, zero, suc}
+use lib.IntN.{ℤ}
+use lib.Dec.{ltb}
+use Rattle.geometry.specs.Rectangles.{nonempty}
+use Rattle.plan.specs.declared.Shape.{Shape}
+use Rattle.plan.specs.Plan.{Layer, layers, planCause}
+use Rattle.join.specs.declared.RowAnswer.{RowAnswer}
+use Rattle.join.specs.declared.RowAnswer.the-variants.{Refused, NoRow, Row}
+use Rattle.join.specs.Join.{rects, commonOf, areaIn, guardLayer}
+use Rattle.join.specs.Table.{sizesIn}
+
+-- one place for each size, below it
+abbrev pub fits : List ℕ → List ℕ → Bool
+fits [] [] = true
+fits [] (p ∷ row) = false
+fits (n ∷ ns) [] = false
+fits (n ∷ ns) (p ∷ row) = ltb p n && fits ns row
+
+-- the cells name a row of J (specs/Theorems.antt, `names`)
+unfoldable pub isRow : List Layer → List ℕ → Bool
+isRow ls row = fits (sizesIn ls) row && nonempty (commonOf (rects ls row))
+
+-- what the call returns in 01's numbers: that of the cause or 0, the guard's layer from 1, the area
+pub record RowValues : Type 0 where
+  pub number : ℕ
+  pub layer : ℕ
+  pub area : ℕ
+
+-- 01: "Where they are not k cells or name no row of J, it returns layer 0 and area 0."
+abbrev pub noRow : RowValues
+noRow = record { number = 0; layer = 0; area = 0 }
+
+abbrev pub pickRow : Bool → RowValues → RowValues
+pickRow true row = row
+pickRow false row = noRow
+
+-- what the cells are told of a plan with these layers
+unfoldable pub told : List Layer → List ℕ → RowValues
+told ls row = pickRow (isRow ls row) (record { number = 0; layer = suc (guardLayer (rects ls row)); area = areaIn ls row })
+
+-- 01: "A refusal returns its number and 0 for all else"
+abbrev pub refusedOr : ℕ → RowValues → RowValues
+refusedOr zero values = values
+refusedOr (suc cause) values = record { number = suc cause; layer = 0; area = 0 }
+
+-- the row call; its checks are 1 to 4
+unfoldable pub rowCall : Shape → List ℤ → List ℕ → RowValues
+rowCall s cells row = refusedOr (planCause s cells) (told (layers s cells) row)
+
+-- 01's number and values of each answer
+abbrev pub rowValues : RowAnswer → RowValues
+rowValues (Refused cause) = record { number = cause; layer = 0; area = 0 }
+rowValues NoRow = noRow
+rowValues (Row layer area) = record { number = 0; layer = layer; area = area }
+
+-- the one answer with these values
+abbrev pub answerFor : (number layer area : ℕ) → RowAnswer
+answerFor (suc cause) layer area = Refused (suc cause)
+answerFor zero zero area = NoRow
+answerFor zero (suc layer) area = Row (suc layer) area
+
+abbrev pub rowAnswer : RowValues → RowAnswer
+rowAnswer v = answerFor (v .number) (v .layer) (v .area)

@@ -1,0 +1,57 @@
+-- Tests: Booleans that say whether something holds, and the two cases of an order of numbers.
+use mathlib.Core.Path.{_≡_, refl, sym, _∙_, subst}
+use mathlib.Core.Bool.{Bool, true, false, not, _&&_}
+use mathlib.Core.Logic.{_⊎_, inl, inr}
+use Prim.Native.Nat.{ℕ, _+_, _≤_, _<_}
+use native.Mathlib.Omega.{arith}
+use lib.Dec.{T, leb, leb→le, nleb→lt}
+use Rattle.lists.specs.Lists.{Tells}
+
+pub clash : {t : Bool} {X : Type 0} → t ≡ true → t ≡ false → X
+clash p q = absurd (subst T (sym p ∙ q) tt)
+
+pub both : (a b : Bool) → (a && b) ≡ true → (a ≡ true) × (b ≡ true)
+both true b e = (refl, e)
+both false b e = clash e refl
+
+pub and-true : (a b : Bool) → a ≡ true → b ≡ true → (a && b) ≡ true
+and-true a b p q = cc
+
+-- two tests that pass together are the same
+pub same-test : (a b : Bool) → (a ≡ true → b ≡ true) → (b ≡ true → a ≡ true) → a ≡ b
+same-test true b f g = sym (f refl)
+same-test false true f g = g refl
+same-test false false f g = refl
+
+pub never-true : (t : Bool) → (t ≡ true → ⊥) → t ≡ false
+never-true true f = absurd (f refl)
+never-true false f = refl
+
+pub holds : {P : Type 0} → P → Tells P true
+holds p = record { if-true = λ e. p; if-false = λ e. clash refl e }
+
+pub fails : {P : Type 0} → (P → ⊥) → Tells P false
+fails n = record { if-true = λ e. clash e refl; if-false = λ e. n }
+
+-- ---- orders of numbers
+pub total : (m n : ℕ) → (m ≤ n) ⊎ (n < m)
+total m n = go (leb m n) (leb→le m n) (nleb→lt m n)
+  where
+    go : (t : Bool) → (T t → m ≤ n) → (T (not t) → n < m) → (m ≤ n) ⊎ (n < m)
+    go true f g = inl (f tt)
+    go false f g = inr (g tt)
+
+split-last : (k i : ℕ) → k < i + 1 → (k < i) ⊎ (k ≡ i)
+split-last k i h = go (total i k)
+  where
+    go : (i ≤ k) ⊎ (k < i) → (k < i) ⊎ (k ≡ i)
+    go (inl q) = inr (omega arith)
+    go (inr q) = inl q
+
+-- what holds from lo on before i, and at i, holds before i + 1
+pub one-more : (P : ℕ → Type 0) (lo i : ℕ) → ((k : ℕ) → lo ≤ k → k < i → P k) → P i → (k : ℕ) → lo ≤ k → k < i + 1 → P k
+one-more P lo i h p k a b = go (split-last k i b)
+  where
+    go : (k < i) ⊎ (k ≡ i) → P k
+    go (inl q) = h k a q
+    go (inr e) = subst P (sym e) p

@@ -1,0 +1,195 @@
+-- Laws of the checks: what each goes by, and that a plan which they let through is sound.
+use mathlib.Core.Path.{_≡_, refl, sym, ap, ap₂, _∙_, subst}
+use mathlib.Core.List.{List, [], _∷_}
+use mathlib.Core.Logic.{_⊎_, inl, inr}
+use mathlib.Core.Bool.{Bool, true, false, _&&_, _||_}
+use Prim.Native.Nat.{ℕ, zero, suc, _+_, _*_, _/_, _≤_, _<_, zero-le}
+use native.Mathlib.Omega.{arith}
+use native.Mathlib.Numerals.{add-one}
+use lib.IntN.{ℤ}
+use lib.Dec.{eqb, leb, ltb}
+use lib.ListN.{length, getD, take, drop, drop-of-length-le}
+use lib.Seq.{drop-cons, length-take-le}
+use borrow.Author.Tests.{lt-ltb, le-ltb, le-leb, lt-leb, leb-true, eqb-true, eq-eqb, ne-eqb}
+use Rattle.lists.specs.Lists.{All, none-left, _and_, sum}
+use Rattle.lists.proofs.Lists.{all-take}
+use Rattle.lists.proofs.Tests.{clash, both, and-true, total}
+use Rattle.geometry.specs.Rectangles.{inRange}
+use Rattle.plan.specs.declared.Shape.{Shape}
+use Rattle.plan.specs.Causes.{unless, _orElse_}
+use Rattle.plan.specs.Frames.{Framed}
+use Rattle.plan.specs.Plan.{rectAt, count, sizesOf, sizeFits, sizesFit, allRanged, planCause, Sound}
+
+-- ---- a size
+pub size-large : (k j n : ℕ) → 512 < n → false ≡ sizeFits k j n
+unfolding sizeFits
+size-large k j n h = rw (lt-leb n 512 h)
+
+pub size-lower : (k j n : ℕ) → n ≤ 512 → j < k → true ≡ sizeFits k j n
+unfolding sizeFits
+size-lower k j n h p = rw (le-leb n 512 h, lt-ltb j k p)
+
+pub size-past : (k j n : ℕ) → n ≤ 512 → k ≤ j → eqb n 0 ≡ sizeFits k j n
+unfolding sizeFits
+size-past k j n h p = rw (le-leb n 512 h, le-ltb j k p)
+
+-- ---- size by size
+pub record Sized (k : ℕ) (ns : List ℕ) (j : ℕ) : Type 0 where
+  pub within : j ≤ length ns
+  pub same : sizesFit k j (drop j ns) ≡ sizesFit k 0 ns
+
+module _ (k : ℕ) (ns : List ℕ) (j : ℕ) (s : Sized k ns j) (h : j < length ns) where
+  next : sizesFit k j (drop j ns) ≡ (sizeFits k j (getD ns j 0) && sizesFit k (suc j) (drop (suc j) ns))
+  next = ap (sizesFit k j) (drop-cons ns j 0 h)
+
+  pub sized-more : sizeFits k j (getD ns j 0) ≡ true → Sized k ns (j + 1)
+  sized-more e = rw add-one (record { within = h; same = sym (next ∙ rw e) ∙ s .same })
+
+  pub sized-not : sizeFits k j (getD ns j 0) ≡ false → false ≡ sizesFit k 0 ns
+  sized-not e = sym (next ∙ rw e) ∙ s .same
+
+pub sized-end : (k : ℕ) (ns : List ℕ) (j : ℕ) → Sized k ns j → length ns ≤ j → true ≡ sizesFit k 0 ns
+sized-end k ns j s h = sym (ap (sizesFit k j) (drop-of-length-le ns h)) ∙ s .same
+
+-- ---- their sum
+pub record Summed (ns : List ℕ) (n j : ℕ) : Type 0 where
+  pub within : j ≤ length ns
+  pub same : n + sum (drop j ns) ≡ sum ns
+  pub small : n ≤ 4294967295 * j
+
+pub summed-more : (ns : List ℕ) (n j : ℕ) → Summed ns n j → j < length ns → getD ns j 0 ≤ 4294967295 → Summed ns (n + getD ns j 0) (j + 1)
+summed-more ns n j s h b =
+    let e = ap sum (drop-cons ns j 0 h) in
+    rw add-one (record { within = h; same = omega (arith, s .same); small = omega (arith, s .small) })
+
+pub summed-end : (ns : List ℕ) (n j : ℕ) → Summed ns n j → length ns ≤ j → n ≡ sum ns
+summed-end ns n j s h = let e = ap sum (drop-of-length-le ns h) in omega (arith, s .same)
+
+-- ---- rectangle by rectangle
+pub ranged-more : (cells : List ℤ) (i : ℕ) → allRanged i cells ≡ true → inRange (rectAt cells i) ≡ true → allRanged (i + 1) cells ≡ true
+ranged-more cells i h e = rw add-one (and-true (allRanged i cells) (inRange (rectAt cells i)) h e)
+
+pub ranged-at : (cells : List ℤ) (n k : ℕ) → allRanged n cells ≡ true → k < n → inRange (rectAt cells k) ≡ true
+ranged-at cells zero k e h = absurd (omega arith)
+ranged-at cells (suc n) k e h = go (total n k) (ranged-at cells n k (b .0))
+  where
+    b : (allRanged n cells ≡ true) × (inRange (rectAt cells n) ≡ true)
+    b = both (allRanged n cells) (inRange (rectAt cells n)) e
+
+    go : (n ≤ k) ⊎ (k < n) → (k < n → inRange (rectAt cells k) ≡ true) → inRange (rectAt cells k) ≡ true
+    go (inl p) i = subst (λ (m : ℕ). inRange (rectAt cells m) ≡ true) (omega arith) (b .1)
+    go (inr p) i = i p
+
+pub ranged-not : (cells : List ℤ) (n k : ℕ) → k < n → inRange (rectAt cells k) ≡ false → false ≡ allRanged n cells
+ranged-not cells n k h e = go (allRanged n cells) refl
+  where
+    go : (t : Bool) → allRanged n cells ≡ t → false ≡ t
+    go true f = clash (ranged-at cells n k f h) e
+    go false f = refl
+
+pub ranged-end : (cells : List ℤ) (i n : ℕ) → allRanged i cells ≡ true → i ≤ n → n ≤ i → true ≡ allRanged n cells
+ranged-end cells i n e h k = let q : i ≡ n = omega arith in sym (subst (λ (m : ℕ). allRanged m cells ≡ true) q e)
+
+-- ---- the causes
+module _ (s : Shape) (cells : List ℤ) where
+  pub cause-low : s .k < 2 → 1 ≡ planCause s cells
+  unfolding planCause
+  cause-low h = rw (lt-leb 2 (s .k) h)
+
+  module _ (low : 2 ≤ s .k) where
+    pub cause-high : 6 < s .k → 1 ≡ planCause s cells
+    unfolding planCause
+    cause-high h = rw (le-leb 2 (s .k) low, lt-leb (s .k) 6 h)
+
+    module _ (high : s .k ≤ 6) where
+      pub cause-size : sizesFit (s .k) 0 (s .sizes) ≡ false → 2 ≡ planCause s cells
+      unfolding planCause
+      cause-size e = rw (le-leb 2 (s .k) low, le-leb (s .k) 6 high, e)
+
+      module _ (fit : sizesFit (s .k) 0 (s .sizes) ≡ true) where
+        pub cause-cells : (length cells ≡ 4 * sum (s .sizes) → ⊥) → 3 ≡ planCause s cells
+        unfolding planCause
+        cause-cells n = rw (le-leb 2 (s .k) low, le-leb (s .k) 6 high, fit, ne-eqb (length cells) (4 * sum (s .sizes)) n)
+
+        module _ (whole : length cells ≡ 4 * sum (s .sizes)) where
+          pub cause-range : (t : Bool) → allRanged (count cells) cells ≡ t → unless t 4 ≡ planCause s cells
+          unfolding planCause
+          cause-range t e = rw (le-leb 2 (s .k) low, le-leb (s .k) 6 high, fit, eq-eqb (length cells) (4 * sum (s .sizes)) whole, e)
+
+-- ---- a plan that is let through
+past-zero : (k j : ℕ) (ns : List ℕ) → k ≤ j → sizesFit k j ns ≡ true → sum ns ≡ 0
+unfolding sizeFits
+past-zero k j [] h e = refl
+past-zero k j (n ∷ ns) h e =
+    let b = both (sizeFits k j n) (sizesFit k (suc j) ns) e in
+    let z = both (leb n 512) (ltb j k || eqb n 0) (b .0) .1 in
+    let y = eqb-true n 0 (rw (le-ltb j k h) at z) in
+    omega (arith, past-zero k (suc j) ns (omega arith) (b .1))
+
+sum-front : (i k j : ℕ) (ns : List ℕ) → k ≡ i + j → sizesFit k j ns ≡ true → sum (take i ns) ≡ sum ns
+sum-front zero k j ns q e = sym (past-zero k j ns (omega arith) e)
+sum-front (suc i) k j [] q e = refl
+sum-front (suc i) k j (n ∷ ns) q e =
+    ap (λ (m : ℕ). n + m) (sum-front i k (suc j) ns (omega arith) (both (sizeFits k j n) (sizesFit k (suc j) ns) e .1))
+
+-- what the checks let through
+pub record Checked (s : Shape) (cells : List ℤ) : Type 0 where
+  pub low : 2 ≤ s .k
+  pub high : s .k ≤ 6
+  pub fit : sizesFit (s .k) 0 (s .sizes) ≡ true
+  pub whole : length cells ≡ 4 * sum (s .sizes)
+  pub ranged : (k : ℕ) → k < count cells → inRange (rectAt cells k) ≡ true
+
+pub checked : (s : Shape) (cells : List ℤ) → Sound s cells → Checked s cells
+unfolding planCause
+checked s cells h = go (leb 2 (s .k) && leb (s .k) 6) refl (sizesFit (s .k) 0 (s .sizes)) refl (eqb (length cells) (4 * sum (s .sizes))) refl (allRanged (count cells) cells) refl (h .passed)
+  where
+    go : (a : Bool) → (leb 2 (s .k) && leb (s .k) 6) ≡ a → (f : Bool) → sizesFit (s .k) 0 (s .sizes) ≡ f → (w : Bool) → eqb (length cells) (4 * sum (s .sizes)) ≡ w → (r : Bool) → allRanged (count cells) cells ≡ r
+        → _≡_ {A = ℕ} (unless a 1 orElse unless f 2 orElse unless w 3 orElse unless r 4) 0 → Checked s cells
+    go false p f x w y r z e = absurd (omega arith)
+    go true p false x w y r z e = absurd (omega arith)
+    go true p true x false y r z e = absurd (omega arith)
+    go true p true x true y false z e = absurd (omega arith)
+    go true p true x true y true z e =
+        let h = both (leb 2 (s .k)) (leb (s .k) 6) p in
+        record { low = leb-true 2 (s .k) (h .0); high = leb-true (s .k) 6 (h .1); fit = x; whole = eqb-true (length cells) (4 * sum (s .sizes)) y; ranged = λ k h. ranged-at cells (count cells) k z h }
+
+-- the sizes of the k layers make up the whole, and each is at most 512
+pub front-sum : (s : Shape) (cells : List ℤ) → Checked s cells → sum (sizesOf s) ≡ sum (s .sizes)
+front-sum s cells c = sum-front (s .k) (s .k) 0 (s .sizes) (omega arith) (c .fit)
+
+pub count-is : (s : Shape) (cells : List ℤ) → Checked s cells → count cells ≡ sum (s .sizes)
+count-is s cells c = omega (arith, c .whole)
+
+-- each of the sizes is at most 512
+pub sizes-small : (k j : ℕ) (ns : List ℕ) → sizesFit k j ns ≡ true → All (λ n. n ≤ 512) ns
+unfolding sizeFits
+sizes-small k j [] e = none-left
+sizes-small k j (n ∷ ns) e =
+    let b = both (sizeFits k j n) (sizesFit k (suc j) ns) e in
+    _and_ (leb-true n 512 (both (leb n 512) (ltb j k || eqb n 0) (b .0) .0)) (sizes-small k (suc j) ns (b .1))
+
+pub sum-small : {ns : List ℕ} → All (λ n. n ≤ 512) ns → sum ns ≤ 512 * length ns
+sum-small none-left = zero-le
+sum-small (_and_ h hs) = omega (arith, sum-small hs)
+
+-- six sizes make at most 3,072 rectangles
+pub few : (s : Shape) (cells : List ℤ) → Sound s cells → count cells ≤ 3072
+few s cells h = let c = checked s cells h in omega (arith, h .six, count-is s cells c, sum-small (sizes-small (s .k) 0 (s .sizes) (c .fit)))
+
+-- a plan that the checks let through, as its functions take it
+pub framed : (s : Shape) (cells : List ℤ) → Sound s cells → (s .k ≤ length (s .sizes)) × Framed (sizesOf s) cells
+framed s cells h =
+    let six = h .six in
+    let c = checked s cells h in
+    let l = length-take-le (s .k) (s .sizes) (omega arith) in
+    let f = front-sum s cells c in (
+      omega arith,
+      record {
+        some = omega arith;
+        few = omega arith;
+        small = all-take (s .k) (sizes-small (s .k) 0 (s .sizes) (c .fit));
+        whole = omega arith;
+        ranged = λ k p. c .ranged k (omega (arith, count-is s cells c));
+      },
+    )

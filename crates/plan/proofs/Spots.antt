@@ -1,0 +1,159 @@
+-- Numbers and spots: a plan's order of numbers is its sweep order by left, layer and place.
+use mathlib.Core.Path.{_≡_, refl, sym, ap, _∙_}
+use mathlib.Core.List.{List, [], _∷_, map, List·Memᴰ, Memᴰ·map, Memᴰ·cast}
+use mathlib.Core.Bool.{Bool, true, false, cond}
+use mathlib.Core.Logic.{_⊎_, inl, inr, ⊎-elim}
+use Prim.Native.Nat.{ℕ, zero, suc, _+_, _-_, _*_, _/_, _≤_, _<_}
+use native.Mathlib.Omega.{arith}
+use lib.IntN.{ℤ, pos}
+use lib.Signed.{_≤ℤ_, _<ℤ_}
+use lib.Dec.{ltb}
+use lib.ListN.{length, getD, take, drop}
+use lib.Seq.{getD-drop, getD-take}
+use borrow.Author.Tests.{ltb-true, ltb-false, lt-ltb, le-ltb}
+use Rattle.lists.specs.Lists.{All, Pairwise, sum}
+use Rattle.lists.proofs.Lists.{all-map, all-of-map, pairwise-of-map, pairwise-with}
+use Rattle.geometry.specs.declared.Rect.{Rect}
+use Rattle.geometry.proofs.Integers.{zarith, total-le}
+use Rattle.geometry.proofs.Machine.{rect-eq}
+use Rattle.plan.specs.Plan.{rectAt, count, Layer, layersOf}
+use Rattle.plan.specs.Sweep.{Spot, nextLayer, spotOf, layerAt, Has, rectOf, Earlier, by-left, by-layer, by-place, before, sweepOrder}
+use Rattle.plan.proofs.Sweep.{leftAt, before-is, sweep-is, sweep-has}
+
+-- ---- numbers and spots
+-- the number of the rectangle at place p of layer i
+numberAt : List ℕ → ℕ → ℕ → ℕ
+numberAt [] i p = p
+numberAt (n ∷ ns) zero p = p
+numberAt (n ∷ ns) (suc i) p = n + numberAt ns i p
+
+number-small : (ns : List ℕ) (i p : ℕ) → p < getD ns i 0 → numberAt ns i p < sum ns
+unfolding numberAt
+number-small [] i p h = absurd (omega arith)
+number-small (n ∷ ns) zero p h = omega arith
+number-small (n ∷ ns) (suc i) p h = omega (arith, number-small ns i p h)
+
+spot-number : (ns : List ℕ) (i p : ℕ) → p < getD ns i 0 → spotOf ns (numberAt ns i p) ≡ record { layer = i; place = p }
+unfolding numberAt
+spot-number [] i p h = absurd (omega arith)
+spot-number (n ∷ ns) zero p h = rw (lt-ltb p n h)
+spot-number (n ∷ ns) (suc i) p h =
+    let e : n + numberAt ns i p - n ≡ numberAt ns i p = omega arith in
+    rw (le-ltb (n + numberAt ns i p) n (omega arith), e) (ap nextLayer (spot-number ns i p h))
+
+-- numbers ascend by layer, then place
+abbrev Ahead : Spot → Spot → Type 0
+Ahead a b = (a .layer < b .layer) ⊎ ((a .layer ≡ b .layer) × (a .place < b .place))
+
+spots-ascend : (ns : List ℕ) (j k : ℕ) → j < k → Ahead (spotOf ns j) (spotOf ns k)
+spots-ascend [] j k h = inr (refl, h)
+spots-ascend (n ∷ ns) j k h = go (ltb j n) refl (ltb k n) refl (λ i. spots-ascend ns (j - n) (k - n) i)
+  where
+    up : {a b : Spot} → Ahead a b → Ahead (nextLayer a) (nextLayer b)
+    up (inl p) = inl (omega arith)
+    up (inr p) = inr (ap suc (p .0), p .1)
+
+    go : (t : Bool) → ltb j n ≡ t → (u : Bool) → ltb k n ≡ u → (j - n < k - n → Ahead (spotOf ns (j - n)) (spotOf ns (k - n)))
+        → Ahead (cond t (record { layer = 0; place = j }) (nextLayer (spotOf ns (j - n)))) (cond u (record { layer = 0; place = k }) (nextLayer (spotOf ns (k - n))))
+    go true e true f i = inr (refl, h)
+    go true e false f i = inl (omega arith)
+    go false e true f i = absurd (omega (arith, ltb-false j n e, ltb-true k n f))
+    go false e false f i = up (i (omega (arith, ltb-false j n e)))
+
+-- ---- rectangles of a part of the cells
+same-rect : (part cells : List ℤ) (i j : ℕ) → ((k : ℕ) → k < 4 → getD part (4 * i + k) (pos 0) ≡ getD cells (4 * j + k) (pos 0)) → rectAt part i ≡ rectAt cells j
+unfolding rectAt
+same-rect part cells i j f =
+    rect-eq {a = rectAt part i} {b = rectAt cells j} (first (f 0 (omega arith))) (f 1 (omega arith)) (f 2 (omega arith)) (f 3 (omega arith))
+  where
+    first : getD part (4 * i + 0) (pos 0) ≡ getD cells (4 * j + 0) (pos 0) → getD part (4 * i) (pos 0) ≡ getD cells (4 * j) (pos 0)
+    first e = let p : 4 * i + 0 ≡ 4 * i = omega arith in let q : 4 * j + 0 ≡ 4 * j = omega arith in rw (p, q) at e
+
+pub rect-drop : (cells : List ℤ) (n k : ℕ) → n ≤ k → rectAt (drop (4 * n) cells) (k - n) ≡ rectAt cells k
+rect-drop cells n k h = same-rect (drop (4 * n) cells) cells (k - n) k (λ i p. let e : 4 * n + (4 * (k - n) + i) ≡ 4 * k + i = omega arith in getD-drop (4 * n) cells (4 * (k - n) + i) (pos 0) ∙ ap (λ (m : ℕ). getD cells m (pos 0)) e)
+
+pub rect-take : (cells : List ℤ) (n k : ℕ) → k < n → rectAt (take (4 * n) cells) k ≡ rectAt cells k
+rect-take cells n k h = same-rect (take (4 * n) cells) cells k k (λ i p. getD-take (4 * n) cells (4 * k + i) (pos 0) (omega arith))
+
+-- the rectangle with number k, and that there is one
+pub rect-number : (ns : List ℕ) (cells : List ℤ) (k : ℕ) → k < sum ns → (rectOf (layersOf ns cells) (spotOf ns k) ≡ rectAt cells k) × Has (layersOf ns cells) (spotOf ns k)
+rect-number [] cells k h = absurd (omega arith)
+rect-number (n ∷ ns) cells k h = go (ltb k n) refl (rect-number ns (drop (4 * n) cells) (k - n))
+  where
+    go : (t : Bool) → ltb k n ≡ t → (k - n < sum ns → (rectOf (layersOf ns (drop (4 * n) cells)) (spotOf ns (k - n)) ≡ rectAt (drop (4 * n) cells) (k - n)) × Has (layersOf ns (drop (4 * n) cells)) (spotOf ns (k - n)))
+        → (rectOf (layersOf (n ∷ ns) cells) (cond t (record { layer = 0; place = k }) (nextLayer (spotOf ns (k - n)))) ≡ rectAt cells k) × Has (layersOf (n ∷ ns) cells) (cond t (record { layer = 0; place = k }) (nextLayer (spotOf ns (k - n))))
+    go true e i = (rect-take cells n k (ltb-true k n e), ltb-true k n e)
+    go false e i = let q = i (omega (arith, ltb-false k n e)) in (q .0 ∙ rect-drop cells n k (ltb-false k n e), q .1)
+
+size-of : (ns : List ℕ) (cells : List ℤ) (i : ℕ) → layerAt (layersOf ns cells) i .size ≡ getD ns i 0
+size-of [] cells i = refl
+size-of (n ∷ ns) cells zero = refl
+size-of (n ∷ ns) cells (suc i) = size-of ns (drop (4 * n) cells) i
+
+pub layers-long : (ns : List ℕ) (cells : List ℤ) → length (layersOf ns cells) ≡ length ns
+layers-long [] cells = refl
+layers-long (n ∷ ns) cells = ap suc (layers-long ns (drop (4 * n) cells))
+
+-- no two rectangles are each before the other
+pub earlier-asym : {ls : List Layer} {a b : Spot} → Earlier ls a b → Earlier ls b a → ⊥
+earlier-asym (by-left h) (by-left k) = omega zarith
+earlier-asym (by-left h) (by-layer p k) = omega zarith
+earlier-asym (by-left h) (by-place p q k) = omega zarith
+earlier-asym (by-layer e h) (by-left k) = omega zarith
+earlier-asym (by-layer e h) (by-layer p k) = omega arith
+earlier-asym (by-layer e h) (by-place p q k) = omega arith
+earlier-asym (by-place e f h) (by-left k) = omega zarith
+earlier-asym (by-place e f h) (by-layer p k) = omega arith
+earlier-asym (by-place e f h) (by-place p q k) = omega arith
+
+-- all rectangles of the layers, by left, then layer, then place
+pub record Sweep (ls : List Layer) (spots : List Spot) : Type 0 where
+  pub sound : All (Has ls) spots
+  pub complete : (s : Spot) → Has ls s → List·Memᴰ s spots
+  pub ascending : Pairwise (Earlier ls) spots
+
+-- ---- a plan: four cells a rectangle
+module _ (sizes : List ℕ) (cells : List ℤ) (whole : length cells ≡ 4 * sum sizes) where
+  counted : count cells ≡ sum sizes
+  counted = omega arith
+
+  left-at : (k : ℕ) → k < count cells → rectOf (layersOf sizes cells) (spotOf sizes k) .left ≡ leftAt cells k
+  left-at k h = ap (λ (r : Rect). r .left) (rect-number sizes cells k (omega (arith, counted)) .0)
+
+  pub earlier : (j k : ℕ) → j < count cells → k < count cells → before cells j k ≡ true → Earlier (layersOf sizes cells) (spotOf sizes j) (spotOf sizes k)
+  earlier j k h i e = go (before-is cells j k e)
+    where
+      p : rectOf (layersOf sizes cells) (spotOf sizes j) .left ≡ leftAt cells j
+      p = left-at j h
+
+      q : rectOf (layersOf sizes cells) (spotOf sizes k) .left ≡ leftAt cells k
+      q = left-at k i
+
+      tie : leftAt cells j ≡ leftAt cells k → Ahead (spotOf sizes j) (spotOf sizes k) → Earlier (layersOf sizes cells) (spotOf sizes j) (spotOf sizes k)
+      tie z (inl a) = by-layer (p ∙ (z ∙ sym q)) a
+      tie z (inr a) = by-place (p ∙ (z ∙ sym q)) (a .0) (a .1)
+
+      less : leftAt cells j <ℤ leftAt cells k → Earlier (layersOf sizes cells) (spotOf sizes j) (spotOf sizes k)
+      less z = by-left (rw (p, q) z)
+
+      go : (leftAt cells j <ℤ leftAt cells k) ⊎ ((leftAt cells j ≤ℤ leftAt cells k) × (j < k)) → Earlier (layersOf sizes cells) (spotOf sizes j) (spotOf sizes k)
+      go (inl z) = less z
+      go (inr z) = ⊎-elim (λ y. tie (omega zarith) (spots-ascend sizes j k (z .1))) less (total-le (leftAt cells k) (leftAt cells j))
+
+  -- each number is that of a rectangle
+  pub plan-has : All (λ k. Has (layersOf sizes cells) (spotOf sizes k)) (sweepOrder cells)
+  plan-has = all-map (λ k h. rect-number sizes cells k (omega (arith, counted)) .1) (sweep-is cells .below)
+
+  -- the order of numbers, as spots, is the sweep order
+  pub sweeps : Sweep (layersOf sizes cells) (map (spotOf sizes) (sweepOrder cells))
+  sweeps = record {
+    sound = all-of-map (spotOf sizes) plan-has;
+    complete = λ s h. has s (rw size-of at h);
+    ascending = pairwise-of-map (spotOf sizes) (λ a b h. h) (pairwise-with earlier (sweep-is cells .below) (sweep-is cells .ascending));
+  }
+    where
+      has : (s : Spot) → s .place < getD sizes (s .layer) 0 → List·Memᴰ s (map (spotOf sizes) (sweepOrder cells))
+      has s h =
+          let k = numberAt sizes (s .layer) (s .place) in
+          Memᴰ·cast (sym (spot-number sizes (s .layer) (s .place) h))
+          (Memᴰ·map (spotOf sizes) (sweep-has cells (sweep-is cells) k (omega (arith, counted, number-small sizes (s .layer) (s .place) h))))

@@ -1,0 +1,68 @@
+-- A plan: a shape and cells (01, "The plan"), and the causes 1 to 4 that refuse one.
+use mathlib.Core.Path.{_≡_}
+use mathlib.Core.List.{List, [], _∷_}
+use mathlib.Core.Bool.{Bool, true, _&&_, _||_}
+use Prim.Native.Nat.{ℕ, zero, suc, _+_, _*_, _/_}
+use lib.IntN.{ℤ, pos}
+use lib.Dec.{eqb, leb, ltb}
+use lib.ListN.{length, getD, take, drop}
+use Rattle.lists.specs.Lists.{sum}
+use Rattle.geometry.specs.declared.Rect.{Rect}
+use Rattle.geometry.specs.Rectangles.{inRange}
+use Rattle.plan.specs.declared.Shape.{Shape}
+use Rattle.plan.specs.Causes.{unless, _orElse_}
+
+-- 01: "signed 32-bit cells, four for each rectangle: left, bottom, right, top"
+unfoldable pub rectAt : List ℤ → ℕ → Rect
+rectAt cells k =
+    record { left = getD cells (4 * k) (pos 0); bottom = getD cells (4 * k + 1) (pos 0); right = getD cells (4 * k + 2) (pos 0); top = getD cells (4 * k + 3) (pos 0) }
+
+-- how many rectangles lie in the cells
+abbrev pub count : List ℤ → ℕ
+count cells = length cells / 4
+
+-- a layer: how many rectangles it has, and the one at each place
+pub record Layer : Type 0 where
+  pub size : ℕ
+  pub rect : ℕ → Rect
+
+-- 01: "The rectangles of a layer are the part of the cells that starts after all earlier layers."
+abbrev pub layersOf : List ℕ → List ℤ → List Layer
+layersOf [] cells = []
+layersOf (n ∷ ns) cells = record { size = n; rect = rectAt (take (4 * n) cells) } ∷ layersOf ns (drop (4 * n) cells)
+
+-- the sizes of the k layers
+abbrev pub sizesOf : Shape → List ℕ
+sizesOf s = take (s .k) (s .sizes)
+
+-- the k layers of a plan
+abbrev pub layers : Shape → List ℤ → List Layer
+layers s cells = layersOf (sizesOf s) cells
+
+-- ---- the causes
+-- 2 does not apply to the size n of layer j, counted from 0: at most 512, and 0 past k
+unfoldable pub sizeFits : (k j n : ℕ) → Bool
+sizeFits k j n = leb n 512 && (ltb j k || eqb n 0)
+
+-- ... nor to any size from that of layer j on
+abbrev pub sizesFit : (k j : ℕ) → List ℕ → Bool
+sizesFit k j [] = true
+sizesFit k j (n ∷ ns) = sizeFits k j n && sizesFit k (suc j) ns
+
+-- 4 applies to none of the first n rectangles
+abbrev pub allRanged : ℕ → List ℤ → Bool
+allRanged zero cells = true
+allRanged (suc n) cells = allRanged n cells && inRange (rectAt cells n)
+
+-- the first of the causes 1 to 4 that applies to a plan
+unfoldable pub planCause : Shape → List ℤ → ℕ
+planCause s cells =
+    unless (leb 2 (s .k) && leb (s .k) 6) 1
+    orElse unless (sizesFit (s .k) 0 (s .sizes)) 2
+    orElse unless (eqb (length cells) (4 * sum (s .sizes))) 3
+    orElse unless (allRanged (count cells) cells) 4
+
+-- a plan that none of them refuses; its shape has six sizes, as the type [u32; 6] says
+pub record Sound (s : Shape) (cells : List ℤ) : Type 0 where
+  pub six : length (s .sizes) ≡ 6
+  pub passed : planCause s cells ≡ 0

@@ -1,0 +1,8 @@
+-- Laws of the search, over any state.
+pub mod Paging
+pub mod Calls
+pub mod Traversal
+pub mod Names
+pub mod Zipper
+pub mod Positions
+pub mod Turns

@@ -1,0 +1,7 @@
+pub mod Traversal
+pub mod Names
+pub mod Paging
+pub mod Calls
+pub mod Zipper
+pub mod Positions
+pub mod Turns
