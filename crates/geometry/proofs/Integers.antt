@@ -1,16 +1,16 @@
 -- Whole numbers as omega reads them: z is `up z` less `dn z`, one of which is 0. `omega zarith` reads and proves orders and equations of ℤ,
 -- and tests of them (`leZ a b ≡ true`). Of a sum, a difference, a maximum or a size list the law with its arguments: `sub-law a b`.
-use mathlib.Core.Path.{_≡_, refl, sym, ap, ap₂, _∙_, subst}
+use mathlib.Core.Path.{_≡_, refl, sym, ap, subst}
 use mathlib.Core.Bool.{Bool, true, false, not, cond}
 use mathlib.Core.Logic.{_⊎_, inl, inr}
-use Prim.Native.Nat.{ℕ, zero, suc, _+_, _-_, _*_, _^_, _≤_, _<_, min, max}
+use Prim.Native.Nat.{ℕ, zero, suc, _+_, _-_, _^_, _≤_, _<_, min}
 use native.Mathlib.Omega.{arith}
 use lib.IntN.{ℤ, pos, negsuc, negℤ, natAbs, subℕ, _+ℤ_, _-ℤ_}
 use lib.Signed.{mag, leZ, ltZ, nonNeg, _≤ℤ_, _<ℤ_}
-use lib.Dec.{T, leb, ltb, leb→le, le→leb, ltb→lt, lt→ltb, nltb→le, nleb→lt}
+use lib.Dec.{T, ltb, leb→le, le→leb, ltb→lt, lt→ltb, nltb→le}
 use mir.Syntax.{Width}
 use mir.Val.{SFits, hbits}
-use Rattle.lists.proofs.Tests.{total}
+use Rattle.lists.proofs.Tests.{same-test, total}
 
 abbrev pub up : ℤ → ℕ
 up (pos k) = k
@@ -107,6 +107,9 @@ ltZ-false a b e = go (total (up b + dn a) (up a + dn b))
     go (inl h) = h
     go (inr h) = absurd (not-both (ltZ a b) e (→ltZ a b h))
 
+pub →ltZ-true : (a b : ℤ) → up a + dn b < up b + dn a → ltZ a b ≡ true
+→ltZ-true a b h = is-true (ltZ a b) (→ltZ a b h)
+
 -- ---- the laws of what is computed
 pub one-side : (z : ℤ) → min (up z) (dn z) ≡ 0
 one-side (pos k) = omega arith
@@ -151,7 +154,7 @@ pub →sfits : (w : Width) (z : ℤ) → up z + (dn z - 1) < 2 ^ hbits w → SFi
 pub sfits→ : (w : Width) (z : ℤ) → SFits w z → up z + (dn z - 1) < 2 ^ hbits w
 sfits→ w z f = subst (λ (n : ℕ). n < 2 ^ hbits w) (mag-law z) (f .sfits)
 
-pub ruleset zarith = (arith, leZ→, →leZ, ltZ→, →ltZ, le→, →le, lt→, →lt, eq→, →eq, leZ-true, →leZ-true, leZ-false, →leZ-false, ltZ-true, ltZ-false)
+pub ruleset zarith = (arith, leZ→, →leZ, ltZ→, →ltZ, le→, →le, lt→, →lt, eq→, →eq, leZ-true, →leZ-true, leZ-false, →leZ-false, ltZ-true, →ltZ-true, ltZ-false)
 
 -- ---- the order's laws
 pub refl-le : (a : ℤ) → a ≤ℤ a
@@ -169,3 +172,7 @@ total-le a b = go (total (up a + dn b) (up b + dn a))
     go : (up a + dn b ≤ up b + dn a) ⊎ (up b + dn a < up a + dn b) → (a ≤ℤ b) ⊎ (b <ℤ a)
     go (inl h) = inl (omega zarith)
     go (inr h) = inr (omega zarith)
+
+-- below b is at most b less one
+pub less-one : (a b : ℤ) → ltZ a b ≡ leZ a (b -ℤ pos 1)
+less-one a b = same-test (ltZ a b) (leZ a (b -ℤ pos 1)) (λ e. omega (zarith, sub-law b (pos 1))) (λ e. omega (zarith, sub-law b (pos 1)))

@@ -1,5 +1,5 @@
 -- What the machine reads back of signed numbers and rectangles, and the tests as the code makes them.
-use mathlib.Core.Path.{_≡_, refl, sym, ap, ap₂, _∙_}
+use mathlib.Core.Path.{_≡_, sym, ap, ap₂, _∙_}
 use mathlib.Core.Bool.{Bool, true, false, not}
 use Prim.Native.Nat.{ℕ, _*_, _<_}
 use native.Mathlib.Nat.{mul-le-mul, lt-of-le-of-lt, le-pred-of-lt}

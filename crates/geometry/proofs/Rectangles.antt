@@ -1,24 +1,25 @@
 -- Laws of rectangles: maxima and minima, common ground, points, ranges, areas.
-use mathlib.Core.Path.{_≡_, refl, sym, ap, _∙_}
-use mathlib.Core.Bool.{Bool, true, false, _&&_}
+use mathlib.Core.Path.{_≡_, refl, sym, ap, ap₂, _∙_}
+use mathlib.Core.Bool.{Bool, true, false, cond, _&&_}
 use Prim.Native.Nat.{ℕ, _+_, _*_, _≤_, min, max}
 use native.Mathlib.Omega.{arith}
 use native.Mathlib.Nat.{mul-le-mul}
-use lib.IntN.{ℤ, pos, negℤ, natAbs, _-ℤ_}
+use lib.IntN.{ℤ, pos, negℤ, natAbs, _+ℤ_, _-ℤ_}
 use lib.Signed.{leZ, _≤ℤ_}
 use Rattle.lists.proofs.Tests.{both, and-true}
 use Rattle.geometry.specs.declared.Rect.{Rect}
 use Rattle.geometry.specs.declared.Meeting.{Meeting}
 use Rattle.geometry.specs.declared.Meeting.the-variants.{Apart, Common}
-use Rattle.geometry.specs.Rectangles.{In, pickZ, maxZ, minZ, common, nonempty, meets, pickMeeting, meeting, reach, inReach, inRange, areaOf}
-use Rattle.geometry.proofs.Integers.{up, dn, zarith, one-side, size-law, sub-law}
+use Rattle.geometry.specs.Rectangles.{In, maxZ, minZ, common, nonempty, meets, meeting, reach, inReach, inRange, areaOf}
+use Rattle.geometry.specs.Theorems.{Coordinate, Ranged}
+use Rattle.geometry.proofs.Integers.{up, dn, zarith, one-side, size-law, add-law, sub-law}
 
 -- ---- maximum and minimum, as omega reads them
 pub max-law : (a b : ℤ) → up (maxZ a b) + dn a + dn b ≡ max (up a + dn b) (up b + dn a) + dn (maxZ a b)
 unfolding maxZ
 max-law a b = go (leZ a b) refl
   where
-    go : (t : Bool) → leZ a b ≡ t → up (pickZ t b a) + dn a + dn b ≡ max (up a + dn b) (up b + dn a) + dn (pickZ t b a)
+    go : (t : Bool) → leZ a b ≡ t → up (cond t b a) + dn a + dn b ≡ max (up a + dn b) (up b + dn a) + dn (cond t b a)
     go true e = omega zarith
     go false e = omega zarith
 
@@ -26,7 +27,7 @@ pub min-law : (a b : ℤ) → up (minZ a b) + dn a + dn b ≡ min (up a + dn b) 
 unfolding minZ
 min-law a b = go (leZ a b) refl
   where
-    go : (t : Bool) → leZ a b ≡ t → up (pickZ t a b) + dn a + dn b ≡ min (up a + dn b) (up b + dn a) + dn (pickZ t a b)
+    go : (t : Bool) → leZ a b ≡ t → up (cond t a b) + dn a + dn b ≡ min (up a + dn b) (up b + dn a) + dn (cond t a b)
     go true e = omega zarith
     go false e = omega zarith
 
@@ -55,6 +56,9 @@ common-comm a b = cc (max-comm (a .left) (b .left), max-comm (a .bottom) (b .bot
 pub common-assoc : (a b c : Rect) → common (common a b) c ≡ common a (common b c)
 unfolding common
 common-assoc a b c = simp (max-assoc, min-assoc)
+
+pub common-swap : (a b c : Rect) → common (common a b) c ≡ common (common a c) b
+common-swap a b c = common-assoc a b c ∙ (ap (common a) (common-comm b c) ∙ sym (common-assoc a c b))
 
 pub common-same : (a : Rect) → common a a ≡ a
 unfolding common
@@ -99,7 +103,7 @@ module _ (a b : Rect) (m : Meeting) (made : m ≡ meeting a b) where
   unfolding meeting
   meeting-common c e = go (meets a b) (sym e ∙ made)
     where
-      go : (t : Bool) → Common c ≡ pickMeeting t (Common (common a b)) Apart → (t ≡ true) × (c ≡ common a b)
+      go : (t : Bool) → Common c ≡ cond t (Common (common a b)) Apart → (t ≡ true) × (c ≡ common a b)
       go true q = (refl, cc)
       go false q = let z : _≡_ {A = ℕ} 0 1 = cc in absurd (omega arith)
 
@@ -107,26 +111,18 @@ module _ (a b : Rect) (m : Meeting) (made : m ≡ meeting a b) where
   unfolding meeting
   meeting-apart e = go (meets a b) (sym e ∙ made)
     where
-      go : (t : Bool) → Apart ≡ pickMeeting t (Common (common a b)) Apart → t ≡ false
+      go : (t : Bool) → Apart ≡ cond t (Common (common a b)) Apart → t ≡ false
       go true q = let z : _≡_ {A = ℕ} 0 1 = cc in absurd (omega arith)
       go false q = refl
 
 -- ---- in range
-pub record Ranged (r : Rect) : Type 0 where
-  pub low-left : negℤ reach ≤ℤ r .left
-  pub high-left : r .left ≤ℤ reach
-  pub low-bottom : negℤ reach ≤ℤ r .bottom
-  pub high-bottom : r .bottom ≤ℤ reach
-  pub low-right : negℤ reach ≤ℤ r .right
-  pub high-right : r .right ≤ℤ reach
-  pub low-top : negℤ reach ≤ℤ r .top
-  pub high-top : r .top ≤ℤ reach
-  pub across : r .left ≤ℤ r .right
-  pub upward : r .bottom ≤ℤ r .top
-
-reach-is : (z : ℤ) → inReach z ≡ true → (negℤ reach ≤ℤ z) × (z ≤ℤ reach)
+reach-is : (z : ℤ) → inReach z ≡ true → Coordinate z
 unfolding inReach
 reach-is z e = let h = both (leZ (negℤ reach) z) (leZ z reach) e in omega zarith
+
+is-reach : (z : ℤ) → Coordinate z → inReach z ≡ true
+unfolding inReach
+is-reach z h = and-true (leZ (negℤ reach) z) (leZ z reach) (omega zarith) (omega zarith)
 
 pub ranged : (r : Rect) → inRange r ≡ true → Ranged r
 unfolding inRange
@@ -135,38 +131,50 @@ ranged r e =
     let h₃ = both (inReach (r .left) && inReach (r .bottom) && inReach (r .right)) (inReach (r .top)) (h₄ .0) in
     let h₂ = both (inReach (r .left) && inReach (r .bottom)) (inReach (r .right)) (h₃ .0) in
     let h₁ = both (inReach (r .left)) (inReach (r .bottom)) (h₂ .0) in
-    omega (zarith, reach-is (r .left) (h₁ .0), reach-is (r .bottom) (h₁ .1), reach-is (r .right) (h₂ .1), reach-is (r .top) (h₃ .1), sides r (h₄ .1))
+    let s = sides r (h₄ .1) in
+    record { left = reach-is _ (h₁ .0); bottom = reach-is _ (h₁ .1); right = reach-is _ (h₂ .1); top = reach-is _ (h₃ .1); across = s .0; upward = s .1 }
+
+pub in-range : (r : Rect) → Ranged r → inRange r ≡ true
+unfolding inRange nonempty
+in-range r h =
+    let w = is-reach (r .left) (h .left) in
+    let x = is-reach (r .bottom) (h .bottom) in
+    let y = is-reach (r .right) (h .right) in
+    let z = is-reach (r .top) (h .top) in
+    rw (w, x, y, z) (and-true (leZ (r .left) (r .right)) (leZ (r .bottom) (r .top)) (omega zarith) (omega zarith))
 
 pub range-nonempty : (r : Rect) → inRange r ≡ true → nonempty r ≡ true
 unfolding inRange
 range-nonempty r e = both (inReach (r .left) && inReach (r .bottom) && inReach (r .right) && inReach (r .top)) (nonempty r) e .1
 
 -- what two rectangles in range have in common is in range, if it is anything
-reach-max : (a b : ℤ) → negℤ reach ≤ℤ a → a ≤ℤ reach → negℤ reach ≤ℤ b → b ≤ℤ reach → inReach (maxZ a b) ≡ true
-unfolding inReach
-reach-max a b p q r s = and-true (leZ (negℤ reach) (maxZ a b)) (leZ (maxZ a b) reach) (omega (zarith, max-law a b)) (omega (zarith, max-law a b))
+reach-max : (a b : ℤ) → Coordinate a → Coordinate b → Coordinate (maxZ a b)
+reach-max a b p q = omega (zarith, max-law a b)
 
-reach-min : (a b : ℤ) → negℤ reach ≤ℤ a → a ≤ℤ reach → negℤ reach ≤ℤ b → b ≤ℤ reach → inReach (minZ a b) ≡ true
-unfolding inReach
-reach-min a b p q r s = and-true (leZ (negℤ reach) (minZ a b)) (leZ (minZ a b) reach) (omega (zarith, min-law a b)) (omega (zarith, min-law a b))
+reach-min : (a b : ℤ) → Coordinate a → Coordinate b → Coordinate (minZ a b)
+reach-min a b p q = omega (zarith, min-law a b)
 
 pub common-range : (c r : Rect) → inRange c ≡ true → inRange r ≡ true → meets c r ≡ true → inRange (common c r) ≡ true
-unfolding inRange common meets
+unfolding common meets
 common-range c r p q m =
     let a = ranged c p in
     let b = ranged r q in
-    let w = reach-max (c .left) (r .left) (a .low-left) (a .high-left) (b .low-left) (b .high-left) in
-    let x = reach-max (c .bottom) (r .bottom) (a .low-bottom) (a .high-bottom) (b .low-bottom) (b .high-bottom) in
-    let y = reach-min (c .right) (r .right) (a .low-right) (a .high-right) (b .low-right) (b .high-right) in
-    let z = reach-min (c .top) (r .top) (a .low-top) (a .high-top) (b .low-top) (b .high-top) in
-    rw (w, x, y, z) m
+    let s = sides (common c r) m in
+    in-range (common c r) (record { left = reach-max _ _ (a .left) (b .left); bottom = reach-max _ _ (a .bottom) (b .bottom); right = reach-min _ _ (a .right) (b .right); top = reach-min _ _ (a .top) (b .top); across = s .0; upward = s .1 })
 
 -- ---- a side: b - a, of two coordinates in range and in order
-side-small : (a b : ℤ) → negℤ reach ≤ℤ a → b ≤ℤ reach → a ≤ℤ b → natAbs (b -ℤ a) ≤ 2000000
-side-small a b low high order = omega (zarith, sub-law b a, one-side (b -ℤ a), size-law (b -ℤ a))
+side-small : (a b : ℤ) → Coordinate a → Coordinate b → a ≤ℤ b → natAbs (b -ℤ a) ≤ 2000000
+side-small a b p q order = omega (zarith, sub-law b a, one-side (b -ℤ a), size-law (b -ℤ a))
+
+side-exact : (a b : ℤ) (n : ℕ) → b ≡ a +ℤ pos n → natAbs (b -ℤ a) ≡ n
+side-exact a b n e = omega (zarith, add-law a (pos n), sub-law b a, one-side (b -ℤ a), size-law (b -ℤ a))
+
+pub area-exact : (r : Rect) (w h : ℕ) → r .right ≡ r .left +ℤ pos w → r .top ≡ r .bottom +ℤ pos h → areaOf r ≡ w * h
+unfolding areaOf
+area-exact r w h p q = ap₂ _*_ (side-exact (r .left) (r .right) w p) (side-exact (r .bottom) (r .top) h q)
 
 pub area-small : (r : Rect) → inRange r ≡ true → areaOf r ≤ 4000000000000
 unfolding areaOf
 area-small r e =
     let k = ranged r e in
-    mul-le-mul (side-small _ _ (k .low-left) (k .high-right) (k .across)) (side-small _ _ (k .low-bottom) (k .high-top) (k .upward))
+    mul-le-mul (side-small _ _ (k .left) (k .right) (k .across)) (side-small _ _ (k .bottom) (k .top) (k .upward))

@@ -1,6 +1,6 @@
 -- The promises on common ground hold.
 use Rattle.geometry.specs.Theorems.{CommonGround}
-use Rattle.geometry.proofs.Rectangles.{common-comm, common-assoc, common-same, in-both, in-common, meets-point, point-meets, area-small}
+use Rattle.geometry.proofs.Rectangles.{common-comm, common-assoc, common-same, in-both, in-common, meets-point, point-meets, ranged, in-range, area-exact, area-small}
 
 pub common-ground : CommonGround
 common-ground = record {
@@ -9,5 +9,7 @@ common-ground = record {
   commutative = common-comm;
   associative = common-assoc;
   idempotent = common-same;
+  range = λ r. (ranged r, in-range r);
+  exact = area-exact;
   area = area-small;
 }

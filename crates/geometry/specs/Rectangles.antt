@@ -1,5 +1,5 @@
 -- Closed rectangles (01, "The plan" and "The table").
-use mathlib.Core.Bool.{Bool, true, false, _&&_}
+use mathlib.Core.Bool.{Bool, cond, _&&_}
 use Prim.Native.Nat.{ℕ, _*_}
 use lib.IntN.{ℤ, pos, negℤ, natAbs, _-ℤ_}
 use lib.Signed.{leZ, _≤ℤ_}
@@ -7,30 +7,26 @@ use Rattle.geometry.specs.declared.Rect.{Rect}
 use Rattle.geometry.specs.declared.Meeting.{Meeting}
 use Rattle.geometry.specs.declared.Meeting.the-variants.{Apart, Common}
 
--- the point x, y lies in the rectangle. 01: "Edges belong to the rectangles, so touching counts."
+-- the point x, y lies in the rectangle. 01: "Edges belong to the rectangles, so touching counts." Whole millimetres are points enough:
+-- rectangles with any common point have their common rectangle's corner in common
 pub record In (x y : ℤ) (r : Rect) : Type 0 where
   pub left : r .left ≤ℤ x
   pub right : x ≤ℤ r .right
   pub bottom : r .bottom ≤ℤ y
   pub top : y ≤ℤ r .top
 
--- the first where the test passed, else the second
-abbrev pub pickZ : Bool → ℤ → ℤ → ℤ
-pickZ true a b = a
-pickZ false a b = b
-
 unfoldable pub maxZ : ℤ → ℤ → ℤ
-maxZ a b = pickZ (leZ a b) b a
+maxZ a b = cond (leZ a b) b a
 
 unfoldable pub minZ : ℤ → ℤ → ℤ
-minZ a b = pickZ (leZ a b) a b
+minZ a b = cond (leZ a b) a b
 
 -- the intersection: the points in both (specs/Theorems.antt, `both`)
 unfoldable pub common : Rect → Rect → Rect
 common a b =
     record { left = maxZ (a .left) (b .left); bottom = maxZ (a .bottom) (b .bottom); right = minZ (a .right) (b .right); top = minZ (a .top) (b .top) }
 
--- 01: "left ≤ right, bottom ≤ top"; such a rectangle holds a point
+-- 01: "left ≤ right, bottom ≤ top"; "Equal sides are allowed: a segment or a point is a rectangle". Such a rectangle holds a point
 unfoldable pub nonempty : Rect → Bool
 nonempty r = leZ (r .left) (r .right) && leZ (r .bottom) (r .top)
 
@@ -38,13 +34,9 @@ nonempty r = leZ (r .left) (r .right) && leZ (r .bottom) (r .top)
 unfoldable pub meets : Rect → Rect → Bool
 meets a b = nonempty (common a b)
 
-abbrev pub pickMeeting : Bool → Meeting → Meeting → Meeting
-pickMeeting true a b = a
-pickMeeting false a b = b
-
 -- the common rectangle of two that meet
 unfoldable pub meeting : Rect → Rect → Meeting
-meeting a b = pickMeeting (meets a b) (Common (common a b)) Apart
+meeting a b = cond (meets a b) (Common (common a b)) Apart
 
 -- 01: "Each coordinate is from −1,000,000 to 1,000,000"
 abbrev pub reach : ℤ
@@ -57,6 +49,7 @@ inReach z = leZ (negℤ reach) z && leZ z reach
 unfoldable pub inRange : Rect → Bool
 inRange r = inReach (r .left) && inReach (r .bottom) && inReach (r .right) && inReach (r .top) && nonempty r
 
--- 01: "width times its height in square millimetres"
+-- 01: "width times its height in square millimetres" (specs/Theorems.antt, `exact`). Of a rectangle with its sides the wrong way round, which
+-- no plan holds, it is the product of how far they lie apart
 unfoldable pub areaOf : Rect → ℕ
 areaOf r = natAbs (r .right -ℤ r .left) * natAbs (r .top -ℤ r .bottom)

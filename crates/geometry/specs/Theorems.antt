@@ -2,10 +2,24 @@
 use mathlib.Core.Path.{_≡_}
 use mathlib.Core.Bool.{true}
 use mathlib.Core.Logic.{_↔_}
-use Prim.Native.Nat.{_≤_}
-use lib.IntN.{ℤ}
+use Prim.Native.Nat.{ℕ, _*_, _≤_}
+use lib.IntN.{ℤ, pos, negℤ, _+ℤ_}
+use lib.Signed.{_≤ℤ_}
 use Rattle.geometry.specs.declared.Rect.{Rect}
 use Rattle.geometry.specs.Rectangles.{In, common, meets, inRange, areaOf}
+
+-- 01: "Each coordinate is from −1,000,000 to 1,000,000"
+abbrev pub Coordinate : ℤ → Type 0
+Coordinate z = (negℤ (pos 1000000) ≤ℤ z) × (z ≤ℤ pos 1000000)
+
+-- 01: ".. ; left ≤ right, bottom ≤ top"
+pub record Ranged (r : Rect) : Type 0 where
+  pub left : Coordinate (r .left)
+  pub bottom : Coordinate (r .bottom)
+  pub right : Coordinate (r .right)
+  pub top : Coordinate (r .top)
+  pub across : r .left ≤ℤ r .right
+  pub upward : r .bottom ≤ℤ r .top
 
 pub record CommonGround : Type 0 where
   -- a point is in the common rectangle exactly when it is in both
@@ -16,5 +30,9 @@ pub record CommonGround : Type 0 where
   pub commutative : (a b : Rect) → common a b ≡ common b a
   pub associative : (a b c : Rect) → common (common a b) c ≡ common a (common b c)
   pub idempotent : (a : Rect) → common a a ≡ a
-  -- 01: the area of a rectangle of a plan is at most 4 × 10^12
+  -- a plan may hold a rectangle exactly when its coordinates are in range and its sides in order
+  pub range : (r : Rect) → (inRange r ≡ true) ↔ Ranged r
+  -- the area is the width times the height
+  pub exact : (r : Rect) (width height : ℕ) → r .right ≡ r .left +ℤ pos width → r .top ≡ r .bottom +ℤ pos height → areaOf r ≡ width * height
+  -- ... and of a rectangle in range at most 4 × 10^12
   pub area : (r : Rect) → inRange r ≡ true → areaOf r ≤ 4000000000000

@@ -1,7 +1,7 @@
 -- What the row call answers, in each of its cases.
-use mathlib.Core.Path.{_≡_, refl, sym, ap, ap₂, _∙_}
+use mathlib.Core.Path.{_≡_, refl, ap, ap₂, _∙_}
 use mathlib.Core.List.{List, [], _∷_}
-use mathlib.Core.Bool.{Bool, true, false, _&&_}
+use mathlib.Core.Bool.{Bool, true, false, cond, _&&_}
 use Prim.Native.Nat.{ℕ, zero, suc, _+_, _*_, _≤_, _<_}
 use native.Mathlib.Omega.{arith}
 use native.Mathlib.Numerals.{add-one}
@@ -11,15 +11,14 @@ use Rattle.lists.proofs.Tests.{clash}
 use Rattle.geometry.specs.declared.Rect.{Rect}
 use Rattle.geometry.specs.Rectangles.{nonempty, areaOf}
 use Rattle.plan.specs.declared.Shape.{Shape}
-use Rattle.plan.specs.Plan.{rectAt, Layer, layersOf, layers, planCause, Sound}
+use Rattle.plan.specs.Plan.{rectAt, layersOf, layers, planCause, Sound}
 use Rattle.join.specs.declared.Ground.{Ground}
-use Rattle.join.specs.declared.Sharing.{Sharing}
 use Rattle.join.specs.declared.Sharing.the-variants.{Nothing, Shared}
 use Rattle.join.specs.declared.RowAnswer.{RowAnswer}
 use Rattle.join.specs.declared.RowAnswer.the-variants.{Refused, NoRow, Row}
 use Rattle.join.specs.Join.{rects, commonOf, areaIn, guardLayer}
-use Rattle.join.specs.Grounds.{pickSharing, sharedBy}
-use Rattle.join.specs.RowCall.{fits, isRow, pickRow, told, rowCall, rowValues, rowAnswer}
+use Rattle.join.specs.Grounds.{sharedBy}
+use Rattle.join.specs.RowCall.{fits, isRow, noRow, told, rowCall, rowValues, rowAnswer}
 use Rattle.join.proofs.Join.{guard-is}
 use Rattle.join.proofs.RowCall.{sizes-of}
 
@@ -29,7 +28,7 @@ module _ (rs : List Rect) where
   unfolding sharedBy
   shared-nothing e = go (nonempty (commonOf rs)) e
     where
-      go : (t : Bool) → Nothing ≡ pickSharing t (Shared (record { common = commonOf rs; guard = guardLayer rs })) → t ≡ false
+      go : (t : Bool) → Nothing ≡ cond t (Shared (record { common = commonOf rs; guard = guardLayer rs })) Nothing → t ≡ false
       go true q = let z : _≡_ {A = ℕ} 0 1 = cc in absurd (omega arith)
       go false q = refl
 
@@ -37,7 +36,7 @@ module _ (rs : List Rect) where
   unfolding sharedBy
   shared-ground g e = go (nonempty (commonOf rs)) e
     where
-      go : (t : Bool) → Shared g ≡ pickSharing t (Shared (record { common = commonOf rs; guard = guardLayer rs })) → (t ≡ true) × (g ≡ record { common = commonOf rs; guard = guardLayer rs })
+      go : (t : Bool) → Shared g ≡ cond t (Shared (record { common = commonOf rs; guard = guardLayer rs })) Nothing → (t ≡ true) × (g ≡ record { common = commonOf rs; guard = guardLayer rs })
       go true q = (refl, cc)
       go false q = let z : _≡_ {A = ℕ} 0 1 = cc in absurd (omega arith)
 
@@ -95,7 +94,7 @@ module _ (s : Shape) (cells : List ℤ) (row : List ℕ) where
   unfolding told
   values-told = go (isRow (layers s cells) row)
     where
-      go : (t : Bool) → let v = pickRow t (record { number = 0; layer = suc (guardLayer (rects (layers s cells) row)); area = areaIn (layers s cells) row }) in rowValues (rowAnswer v) ≡ v
+      go : (t : Bool) → let v = cond t (record { number = 0; layer = suc (guardLayer (rects (layers s cells) row)); area = areaIn (layers s cells) row }) noRow in rowValues (rowAnswer v) ≡ v
       go true = refl
       go false = refl
 

@@ -2,7 +2,7 @@
 use mathlib.Core.Path.{_≡_, refl, sym, ap, ap₂, _∙_}
 use mathlib.Core.List.{List, [], _∷_}
 use mathlib.Core.Bool.{Bool, true, false, cond}
-use Prim.Native.Nat.{ℕ, zero, suc, _+_, _*_, _≤_, _<_}
+use Prim.Native.Nat.{ℕ, suc, _+_, _*_, _≤_, _<_}
 use native.Mathlib.Omega.{arith}
 use native.Mathlib.Numerals.{add-one}
 use lib.IntN.{ℤ}
@@ -23,9 +23,9 @@ use Rattle.plan.proofs.Spots.{rect-take}
 use Rattle.join.specs.declared.Ground.{Ground}
 use Rattle.join.specs.declared.Sharing.{Sharing}
 use Rattle.join.specs.declared.Sharing.the-variants.{Nothing, Shared}
-use Rattle.join.specs.Join.{rects, cut, commonOf, sameZ, firstAt, guardLayer}
+use Rattle.join.specs.Join.{rects, cut, sameZ, firstAt}
 use Rattle.join.specs.RowCall.{fits}
-use Rattle.join.specs.Grounds.{pickSharing, takeIn, sharedBy}
+use Rattle.join.specs.Grounds.{takeIn, sharedBy}
 use Rattle.join.proofs.Join.{cut-some, cut-above, same-yes, same-true}
 use Rattle.join.proofs.RowCall.{fits-long, fits-at}
 
@@ -66,7 +66,7 @@ abbrev ground : Ground → ℕ → List Rect → Ground
 ground g i rs =
     record { common = cut (g .common) rs; guard = cond (sameZ (g .common .left) (cut (g .common) rs .left)) (g .guard) (i + firstAt (cut (g .common) rs .left) rs) }
 
-walked-is : (g : Ground) (i : ℕ) (rs : List Rect) → nonempty (g .common) ≡ true → walked g i rs ≡ pickSharing (nonempty (cut (g .common) rs)) (Shared (ground g i rs))
+walked-is : (g : Ground) (i : ℕ) (rs : List Rect) → nonempty (g .common) ≡ true → walked g i rs ≡ cond (nonempty (cut (g .common) rs)) (Shared (ground g i rs)) Nothing
 unfolding takeIn meets common
 walked-is g i [] e = rw (e, same-yes (g .common .left) (g .common .left) refl)
 walked-is g i (r ∷ rs) e = go (nonempty (common (g .common) r)) refl (walked-is (next r) (suc i) rs)
@@ -74,9 +74,9 @@ walked-is g i (r ∷ rs) e = go (nonempty (common (g .common) r)) refl (walked-i
     next : Rect → Ground
     next r = record { common = common (g .common) r; guard = cond (ltZ (g .common .left) (r .left)) i (g .guard) }
 
-    go : (t : Bool) → nonempty (common (g .common) r) ≡ t → (nonempty (common (g .common) r) ≡ true → walked (next r) (suc i) rs ≡ pickSharing (nonempty (cut (common (g .common) r) rs)) (Shared (ground (next r) (suc i) rs)))
-        → onward (λ h. walked h (suc i) rs) (pickSharing t (Shared (next r))) ≡ pickSharing (nonempty (cut (common (g .common) r) rs)) (Shared (ground g i (r ∷ rs)))
-    go true q ih = ih q ∙ ap (λ (n : ℕ). pickSharing (nonempty (cut (common (g .common) r) rs)) (Shared (record { common = cut (common (g .common) r) rs; guard = n }))) (guard-step (g .common .left) (r .left) _ i (g .guard) _ (cut-above (common (g .common) r) rs .0))
+    go : (t : Bool) → nonempty (common (g .common) r) ≡ t → (nonempty (common (g .common) r) ≡ true → walked (next r) (suc i) rs ≡ cond (nonempty (cut (common (g .common) r) rs)) (Shared (ground (next r) (suc i) rs)) Nothing)
+        → onward (λ h. walked h (suc i) rs) (cond t (Shared (next r)) Nothing) ≡ cond (nonempty (cut (common (g .common) r) rs)) (Shared (ground g i (r ∷ rs))) Nothing
+    go true q ih = ih q ∙ ap (λ (n : ℕ). cond (nonempty (cut (common (g .common) r) rs)) (Shared (record { common = cut (common (g .common) r) rs; guard = n })) Nothing) (guard-step (g .common .left) (r .left) _ i (g .guard) _ (cut-above (common (g .common) r) rs .0))
     go false q ih = rw (never-true (nonempty (cut (common (g .common) r) rs)) (λ p. clash (cut-some (common (g .common) r) rs p) q))
 
 -- all of a row's rectangles, from the first on

@@ -1,24 +1,22 @@
 -- Laws of the row call's tests: a row that fits, and membership in J.
 use mathlib.Core.Path.{_≡_, refl, sym, ap, ap₂, _∙_}
 use mathlib.Core.List.{List, [], _∷_}
-use mathlib.Core.Bool.{Bool, true, false, _&&_}
+use mathlib.Core.Bool.{true, false, _&&_}
 use mathlib.Core.Logic.{_↔_}
 use Prim.Native.Nat.{ℕ, zero, suc, _+_, _*_, _≤_, _<_}
 use native.Mathlib.Omega.{arith}
 use native.Mathlib.Numerals.{add-one}
 use lib.IntN.{ℤ}
 use lib.Dec.{ltb}
-use lib.ListN.{length, getD, take, drop, drop-of-length-le}
+use lib.ListN.{length, getD, drop, drop-of-length-le}
 use lib.Seq.{drop-cons}
 use borrow.Author.Tests.{ltb-true, lt-ltb, le-ltb}
 use Rattle.lists.proofs.Tests.{clash, both, and-true, never-true}
 use Rattle.geometry.specs.Rectangles.{nonempty}
 use Rattle.plan.specs.Plan.{Layer, layersOf}
-use Rattle.join.specs.declared.RowAnswer.{RowAnswer}
-use Rattle.join.specs.declared.RowAnswer.the-variants.{Refused, NoRow, Row}
-use Rattle.join.specs.Join.{Within, no-layer, _below_, rects, InJoin, commonOf, areaIn, guardLayer}
+use Rattle.join.specs.Join.{Within, no-layer, _below_, rects, InJoin, commonOf}
 use Rattle.join.specs.Table.{sizesIn}
-use Rattle.join.specs.RowCall.{fits, isRow, noRow, pickRow, told}
+use Rattle.join.specs.RowCall.{fits, isRow}
 use Rattle.join.proofs.Table.{join-some, some-join}
 
 -- ---- a row that fits

@@ -1,6 +1,6 @@
 -- The row call (01, "The table"): "takes a plan and lent cells and returns the guard's layer and the area of the row in them".
 use mathlib.Core.List.{List, [], _∷_}
-use mathlib.Core.Bool.{Bool, true, false, _&&_}
+use mathlib.Core.Bool.{Bool, true, false, cond, _&&_}
 use Prim.Native.Nat.{ℕ, zero, suc}
 use lib.IntN.{ℤ}
 use lib.Dec.{ltb}
@@ -19,7 +19,7 @@ fits [] (p ∷ row) = false
 fits (n ∷ ns) [] = false
 fits (n ∷ ns) (p ∷ row) = ltb p n && fits ns row
 
--- the cells name a row of J (specs/Theorems.antt, `names`)
+-- the cells name a row of J (specs/Theorems.antt, `names`): they fit, and their rectangles have something in common
 unfoldable pub isRow : List Layer → List ℕ → Bool
 isRow ls row = fits (sizesIn ls) row && nonempty (commonOf (rects ls row))
 
@@ -33,13 +33,9 @@ pub record RowValues : Type 0 where
 abbrev pub noRow : RowValues
 noRow = record { number = 0; layer = 0; area = 0 }
 
-abbrev pub pickRow : Bool → RowValues → RowValues
-pickRow true row = row
-pickRow false row = noRow
-
--- what the cells are told of a plan with these layers
+-- what the call returns for a row of a sound plan with these layers
 unfoldable pub told : List Layer → List ℕ → RowValues
-told ls row = pickRow (isRow ls row) (record { number = 0; layer = suc (guardLayer (rects ls row)); area = areaIn ls row })
+told ls row = cond (isRow ls row) (record { number = 0; layer = suc (guardLayer (rects ls row)); area = areaIn ls row }) noRow
 
 -- 01: "A refusal returns its number and 0 for all else"
 abbrev pub refusedOr : ℕ → RowValues → RowValues
@@ -56,7 +52,7 @@ rowValues (Refused cause) = record { number = cause; layer = 0; area = 0 }
 rowValues NoRow = noRow
 rowValues (Row layer area) = record { number = 0; layer = layer; area = area }
 
--- the one answer with these values
+-- the answer that the call gives for its values
 abbrev pub answerFor : (number layer area : ℕ) → RowAnswer
 answerFor (suc cause) layer area = Refused (suc cause)
 answerFor zero zero area = NoRow

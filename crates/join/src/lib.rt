@@ -9,7 +9,7 @@ use plan::plan_cause;
 use plan::rect_at;
 ghost use mathlib.Core.Path.{_≡_};
 ghost use mathlib.Core.Bool.{true};
-ghost use Prim.Native.Nat.{ℕ, _+_, _*_, _<_, _≤_};
+ghost use Prim.Native.Nat.{_+_, _*_, _<_, _≤_};
 ghost use lib.ListN.{length, take, drop};
 ghost use Rattle.plan.specs.Plan.{rectAt, layersOf};
 ghost use Rattle.plan.specs.Frames.{Framed};
@@ -37,15 +37,15 @@ pub enum Sharing {
 }
 
 // What the lent cells name in the table of a plan.
-pub fn row(shape: Shape, cells: &[i32], row: &[u32]) -> RowAnswer
-    ensures answer { λ r. ⌜ r ≡ rowAnswer (rowCall shape (now (cells .entry)) (now (row .entry))) ⌝ }
-    ensures values { λ r. ⌜ rowValues r ≡ rowCall shape (now (cells .entry)) (now (row .entry)) ⌝ }
+pub fn row(shape: Shape, cells: &[i32], places: &[u32]) -> RowAnswer
+    ensures answer { λ r. ⌜ r ≡ rowAnswer (rowCall shape (now (cells .entry)) (now (places .entry))) ⌝ }
+    ensures values { λ r. ⌜ rowValues r ≡ rowCall shape (now (cells .entry)) (now (places .entry)) ⌝ }
 {
     let cause = plan_cause(shape, cells);
     if cause != 0 {
         return RowAnswer::Refused(cause);
     }
-    row_among(&shape.sizes, shape.k as usize, cells, row)
+    row_among(&shape.sizes, shape.k as usize, cells, places)
 }
 
 // The row among the first k layers.

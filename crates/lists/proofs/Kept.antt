@@ -133,6 +133,11 @@ without-all i none-left = none-left
 without-all zero (_and_ h hs) = hs
 without-all (suc i) (_and_ h hs) = _and_ h (without-all i hs)
 
+pub length-without : {A : Type 0} (i : ℕ) (l : List A) → i < length l → suc (length (without i l)) ≡ length l
+length-without i [] h = absurd (omega arith)
+length-without zero (a ∷ l) h = refl
+length-without (suc i) (a ∷ l) h = ap suc (length-without i l (omega arith))
+
 -- ---- f at each of n numbers
 pub length-upto : {A : Type 0} (f : ℕ → A) (p m : ℕ) → length (upto f p m) ≡ m
 length-upto f p zero = refl

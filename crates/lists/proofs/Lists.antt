@@ -5,7 +5,7 @@ use mathlib.Core.Logic.{_⊎_, inl, inr, ⊎-elim}
 use Prim.Native.Nat.{ℕ, zero, suc, _+_, _-_, _≤_, _<_}
 use native.Mathlib.Omega.{arith}
 use lib.ListN.{length, getD, take, drop}
-use Rattle.lists.specs.Lists.{All, none-left, _and_, Pairwise, done, _then_, without}
+use Rattle.lists.specs.Lists.{All, none-left, _and_, Pairwise, done, _then_}
 use Rattle.lists.proofs.Tests.{total}
 
 module _ {A : Type 0} where

@@ -1,7 +1,7 @@
 -- Laws of lists of numbers: those below n, the pigeonhole principle, and the test of equality.
-use mathlib.Core.Path.{_∙_, _≡_, refl, sym, ap, ap₂, subst}
+use mathlib.Core.Path.{_≡_, refl, sym, ap, ap₂, subst}
 use mathlib.Core.List.{List, [], _∷_, _++_, List·Memᴰ, List·Memᴰ·head, List·Memᴰ·tail}
-use mathlib.Core.Bool.{Bool, true, false, cond, _&&_}
+use mathlib.Core.Bool.{Bool, true, false, cond}
 use mathlib.Core.Logic.{_⊎_, inl, inr, ⊎-elim}
 use Prim.Native.Nat.{ℕ, zero, suc, _+_, _≤_, _<_, zero-le}
 use native.Mathlib.Nat.{le-refl}
@@ -9,7 +9,7 @@ use native.Mathlib.Omega.{arith}
 use lib.Dec.{eqb}
 use lib.ListN.{length, length-append}
 use borrow.Author.Tests.{eq-eqb, eqb-true, eqb-false}
-use Rattle.lists.specs.Lists.{Tells, All, none-left, _and_, Pairwise, done, _then_, Below, Distinct, sum, numbers, same}
+use Rattle.lists.specs.Lists.{Tells, All, none-left, _and_, done, _then_, Below, Distinct, sum, numbers, same}
 use Rattle.lists.proofs.Tests.{clash, both}
 use Rattle.lists.proofs.Lists.{all-map, all-++, pairwise-++}
 

@@ -10,6 +10,10 @@ use Rattle.lists.specs.Lists.{Tells}
 pub clash : {t : Bool} {X : Type 0} → t ≡ true → t ≡ false → X
 clash p q = absurd (subst T (sym p ∙ q) tt)
 
+pub never-true : (t : Bool) → (t ≡ true → ⊥) → t ≡ false
+never-true true f = absurd (f refl)
+never-true false f = refl
+
 pub both : (a b : Bool) → (a && b) ≡ true → (a ≡ true) × (b ≡ true)
 both true b e = (refl, e)
 both false b e = clash e refl
@@ -17,21 +21,28 @@ both false b e = clash e refl
 pub and-true : (a b : Bool) → a ≡ true → b ≡ true → (a && b) ≡ true
 and-true a b p q = cc
 
+pub and-first : (a b : Bool) → (a ≡ true → b ≡ true) → (a && b) ≡ a
+and-first true b f = f refl
+and-first false b f = refl
+
+pub and-second : (a b : Bool) → (b ≡ true → a ≡ true) → (a && b) ≡ b
+and-second true b f = refl
+and-second false b f = sym (never-true b (λ e. clash (f e) refl))
+
 -- two tests that pass together are the same
 pub same-test : (a b : Bool) → (a ≡ true → b ≡ true) → (b ≡ true → a ≡ true) → a ≡ b
 same-test true b f g = sym (f refl)
 same-test false true f g = g refl
 same-test false false f g = refl
 
-pub never-true : (t : Bool) → (t ≡ true → ⊥) → t ≡ false
-never-true true f = absurd (f refl)
-never-true false f = refl
-
 pub holds : {P : Type 0} → P → Tells P true
 holds p = record { if-true = λ e. p; if-false = λ e. clash refl e }
 
 pub fails : {P : Type 0} → (P → ⊥) → Tells P false
 fails n = record { if-true = λ e. clash e refl; if-false = λ e. n }
+
+pub tells : {P : Type 0} (t : Bool) → (t ≡ true → P) → (P → t ≡ true) → Tells P t
+tells t f g = record { if-true = f; if-false = λ e p. clash (g p) e }
 
 -- ---- orders of numbers
 pub total : (m n : ℕ) → (m ≤ n) ⊎ (n < m)

@@ -1,18 +1,14 @@
 -- What the order maker answers, in each of its cases.
-use mathlib.Core.Path.{_≡_, refl, sym, ap, _∙_}
+use mathlib.Core.Path.{_≡_, refl, sym, _∙_}
 use mathlib.Core.List.{List}
-use mathlib.Core.Bool.{Bool}
-use Prim.Native.Nat.{ℕ, zero, suc, _+_, _*_, _/_, _≤_, _<_}
-use native.Mathlib.Omega.{arith}
+use Prim.Native.Nat.{ℕ, zero, suc}
 use lib.IntN.{ℤ}
-use lib.Dec.{eqb}
 use lib.ListN.{length}
 use borrow.Author.Tests.{eq-eqb, ne-eqb}
 use Rattle.lists.specs.Lists.{sum}
 use Rattle.plan.specs.declared.Shape.{Shape}
 use Rattle.plan.specs.declared.OrderAnswer.{OrderAnswer}
 use Rattle.plan.specs.declared.OrderAnswer.the-variants.{Made, Refused}
-use Rattle.plan.specs.Causes.{unless, _orElse_}
 use Rattle.plan.specs.Plan.{count, planCause, Sound}
 use Rattle.plan.specs.Sweep.{sweepOrder, orderCause, orderAnswer, orderNumber, orderAfter}
 use Rattle.plan.proofs.Plan.{checked, count-is}

@@ -1,9 +1,9 @@
 -- Laws of the checks: what each goes by, and that a plan which they let through is sound.
-use mathlib.Core.Path.{_≡_, refl, sym, ap, ap₂, _∙_, subst}
+use mathlib.Core.Path.{_≡_, refl, sym, ap, _∙_, subst}
 use mathlib.Core.List.{List, [], _∷_}
 use mathlib.Core.Logic.{_⊎_, inl, inr}
 use mathlib.Core.Bool.{Bool, true, false, _&&_, _||_}
-use Prim.Native.Nat.{ℕ, zero, suc, _+_, _*_, _/_, _≤_, _<_, zero-le}
+use Prim.Native.Nat.{ℕ, zero, suc, _+_, _*_, _≤_, _<_, zero-le}
 use native.Mathlib.Omega.{arith}
 use native.Mathlib.Numerals.{add-one}
 use lib.IntN.{ℤ}
@@ -79,6 +79,10 @@ ranged-at cells (suc n) k e h = go (total n k) (ranged-at cells n k (b .0))
     go : (n ≤ k) ⊎ (k < n) → (k < n → inRange (rectAt cells k) ≡ true) → inRange (rectAt cells k) ≡ true
     go (inl p) i = subst (λ (m : ℕ). inRange (rectAt cells m) ≡ true) (omega arith) (b .1)
     go (inr p) i = i p
+
+pub ranged-all : (cells : List ℤ) (n : ℕ) → ((k : ℕ) → k < n → inRange (rectAt cells k) ≡ true) → allRanged n cells ≡ true
+ranged-all cells zero f = refl
+ranged-all cells (suc n) f = and-true (allRanged n cells) (inRange (rectAt cells n)) (ranged-all cells n (λ k h. f k (omega arith))) (f n (omega arith))
 
 pub ranged-not : (cells : List ℤ) (n k : ℕ) → k < n → inRange (rectAt cells k) ≡ false → false ≡ allRanged n cells
 ranged-not cells n k h e = go (allRanged n cells) refl

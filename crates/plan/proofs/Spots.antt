@@ -3,7 +3,7 @@ use mathlib.Core.Path.{_≡_, refl, sym, ap, _∙_}
 use mathlib.Core.List.{List, [], _∷_, map, List·Memᴰ, Memᴰ·map, Memᴰ·cast}
 use mathlib.Core.Bool.{Bool, true, false, cond}
 use mathlib.Core.Logic.{_⊎_, inl, inr, ⊎-elim}
-use Prim.Native.Nat.{ℕ, zero, suc, _+_, _-_, _*_, _/_, _≤_, _<_}
+use Prim.Native.Nat.{ℕ, zero, suc, _+_, _-_, _*_, _≤_, _<_}
 use native.Mathlib.Omega.{arith}
 use lib.IntN.{ℤ, pos}
 use lib.Signed.{_≤ℤ_, _<ℤ_}
@@ -11,35 +11,33 @@ use lib.Dec.{ltb}
 use lib.ListN.{length, getD, take, drop}
 use lib.Seq.{getD-drop, getD-take}
 use borrow.Author.Tests.{ltb-true, ltb-false, lt-ltb, le-ltb}
-use Rattle.lists.specs.Lists.{All, Pairwise, sum}
-use Rattle.lists.proofs.Lists.{all-map, all-of-map, pairwise-of-map, pairwise-with}
+use Rattle.lists.specs.Lists.{All, none-left, _and_, Pairwise, sum}
+use Rattle.lists.proofs.Lists.{all-map, all-at, all-of-map, pairwise-of-map, pairwise-with}
 use Rattle.geometry.specs.declared.Rect.{Rect}
+use Rattle.geometry.specs.Rectangles.{inRange}
 use Rattle.geometry.proofs.Integers.{zarith, total-le}
 use Rattle.geometry.proofs.Machine.{rect-eq}
 use Rattle.plan.specs.Plan.{rectAt, count, Layer, layersOf}
+use Rattle.plan.specs.Frames.{Framed}
 use Rattle.plan.specs.Sweep.{Spot, nextLayer, spotOf, layerAt, Has, rectOf, Earlier, by-left, by-layer, by-place, before, sweepOrder}
 use Rattle.plan.proofs.Sweep.{leftAt, before-is, sweep-is, sweep-has}
 
 -- ---- numbers and spots
 -- the number of the rectangle at place p of layer i
-numberAt : List ℕ → ℕ → ℕ → ℕ
-numberAt [] i p = p
-numberAt (n ∷ ns) zero p = p
-numberAt (n ∷ ns) (suc i) p = n + numberAt ns i p
+abbrev numberAt : List ℕ → ℕ → ℕ → ℕ
+numberAt ns i p = sum (take i ns) + p
 
 number-small : (ns : List ℕ) (i p : ℕ) → p < getD ns i 0 → numberAt ns i p < sum ns
-unfolding numberAt
 number-small [] i p h = absurd (omega arith)
 number-small (n ∷ ns) zero p h = omega arith
 number-small (n ∷ ns) (suc i) p h = omega (arith, number-small ns i p h)
 
-spot-number : (ns : List ℕ) (i p : ℕ) → p < getD ns i 0 → spotOf ns (numberAt ns i p) ≡ record { layer = i; place = p }
-unfolding numberAt
+pub spot-number : (ns : List ℕ) (i p : ℕ) → p < getD ns i 0 → spotOf ns (numberAt ns i p) ≡ record { layer = i; place = p }
 spot-number [] i p h = absurd (omega arith)
-spot-number (n ∷ ns) zero p h = rw (lt-ltb p n h)
+spot-number (n ∷ ns) zero p h = let e : 0 + p ≡ p = omega arith in rw (e, lt-ltb p n h)
 spot-number (n ∷ ns) (suc i) p h =
-    let e : n + numberAt ns i p - n ≡ numberAt ns i p = omega arith in
-    rw (le-ltb (n + numberAt ns i p) n (omega arith), e) (ap nextLayer (spot-number ns i p h))
+    let e : n + sum (take i ns) + p - n ≡ numberAt ns i p = omega arith in
+    rw (le-ltb (n + sum (take i ns) + p) n (omega arith), e) (ap nextLayer (spot-number ns i p h))
 
 -- numbers ascend by layer, then place
 abbrev Ahead : Spot → Spot → Type 0
@@ -93,6 +91,15 @@ size-of (n ∷ ns) cells (suc i) = size-of ns (drop (4 * n) cells) i
 pub layers-long : (ns : List ℕ) (cells : List ℤ) → length (layersOf ns cells) ≡ length ns
 layers-long [] cells = refl
 layers-long (n ∷ ns) cells = ap suc (layers-long ns (drop (4 * n) cells))
+
+pub has-layer : (ls : List Layer) (i p : ℕ) → p < layerAt ls i .size → i < length ls
+has-layer [] i p h = absurd (omega arith)
+has-layer (l ∷ ls) zero p h = omega arith
+has-layer (l ∷ ls) (suc i) p h = omega (arith, has-layer ls i p h)
+
+pub layers-small : (m : ℕ) {ns : List ℕ} (cells : List ℤ) → All (λ n. n ≤ m) ns → All (λ l. l .size ≤ m) (layersOf ns cells)
+layers-small m cells none-left = none-left
+layers-small m cells (_and_ h hs) = _and_ h (layers-small m _ hs)
 
 -- no two rectangles are each before the other
 pub earlier-asym : {ls : List Layer} {a b : Spot} → Earlier ls a b → Earlier ls b a → ⊥
@@ -157,3 +164,12 @@ module _ (sizes : List ℕ) (cells : List ℤ) (whole : length cells ≡ 4 * sum
           let k = numberAt sizes (s .layer) (s .place) in
           Memᴰ·cast (sym (spot-number sizes (s .layer) (s .place) h))
           (Memᴰ·map (spotOf sizes) (sweep-has cells (sweep-is cells) k (omega (arith, counted, number-small sizes (s .layer) (s .place) h))))
+
+-- every rectangle of a sound plan is in range
+pub rects-ranged : (sizes : List ℕ) (cells : List ℤ) → Framed sizes cells → (s : Spot) → Has (layersOf sizes cells) s → inRange (rectOf (layersOf sizes cells) s) ≡ true
+rects-ranged sizes cells f s h =
+    all-at {P = λ s. inRange (rectOf (layersOf sizes cells) s) ≡ true} (all-of-map (spotOf sizes) (all-map ranged (sweep-is cells .below)))
+    (sweeps sizes cells (f .whole) .complete s h)
+  where
+    ranged : (k : ℕ) → k < count cells → inRange (rectOf (layersOf sizes cells) (spotOf sizes k)) ≡ true
+    ranged k p = let l : k < sum sizes = omega (arith, f .whole) in ap inRange (rect-number sizes cells k l .0) ∙ f .ranged k l

@@ -3,7 +3,6 @@ use mathlib.Core.Bool.{Bool, true, false}
 use Prim.Native.Nat.{ℕ, zero, suc}
 
 infixl 20 _orElse_
-
 -- the cause, unless its check is passed
 abbrev pub unless : Bool → ℕ → ℕ
 unless true cause = 0

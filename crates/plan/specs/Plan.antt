@@ -14,14 +14,14 @@ use Rattle.plan.specs.Causes.{unless, _orElse_}
 
 -- 01: "signed 32-bit cells, four for each rectangle: left, bottom, right, top"
 unfoldable pub rectAt : List ℤ → ℕ → Rect
-rectAt cells k =
-    record { left = getD cells (4 * k) (pos 0); bottom = getD cells (4 * k + 1) (pos 0); right = getD cells (4 * k + 2) (pos 0); top = getD cells (4 * k + 3) (pos 0) }
+rectAt cells i =
+    record { left = getD cells (4 * i) (pos 0); bottom = getD cells (4 * i + 1) (pos 0); right = getD cells (4 * i + 2) (pos 0); top = getD cells (4 * i + 3) (pos 0) }
 
--- how many rectangles lie in the cells
+-- how many rectangles lie in the cells; n, where check 3 is passed (specs/Theorems.antt, `counted`)
 abbrev pub count : List ℤ → ℕ
 count cells = length cells / 4
 
--- a layer: how many rectangles it has, and the one at each place
+-- a layer: how many rectangles it has, and the one at each place. Lists of layers, and so their indices here, begin at 0; 01 numbers layers from 1
 pub record Layer : Type 0 where
   pub size : ℕ
   pub rect : ℕ → Rect

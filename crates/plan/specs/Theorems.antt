@@ -1,29 +1,65 @@
--- Theorem: what is promised of the sweep order of every sound plan. Proved in proofs/Theorems.antt.
+-- Theorem: what is promised of the causes of every plan, and of the sweep order of every sound one. Proved in proofs/Theorems.antt.
 use mathlib.Core.Path.{_≡_}
 use mathlib.Core.List.{List, List·Memᴰ}
 use mathlib.Core.Logic.{_↔_}
-use Prim.Native.Nat.{ℕ, _<_}
+use Prim.Native.Nat.{ℕ, _+_, _*_, _≤_, _<_}
 use lib.IntN.{ℤ}
+use lib.ListN.{length, getD, take}
 use Rattle.lists.specs.Lists.{Pairwise, Distinct, sum}
+use Rattle.geometry.specs.Theorems.{Ranged}
 use Rattle.plan.specs.declared.Shape.{Shape}
-use Rattle.plan.specs.Plan.{rectAt, sizesOf, layers}
+use Rattle.plan.specs.Plan.{rectAt, count, sizesOf, layers, planCause, Sound}
 use Rattle.plan.specs.Sweep.{spotOf, Has, rectOf, Earlier, sweepOrder}
 
+-- ---- 01, "The plan": what each of the causes denies
+-- "k layers, 2 to 6"
+abbrev pub Layered : Shape → Type 0
+Layered s = (2 ≤ s .k) × (s .k ≤ 6)
+
+-- sizes of "0 to 512", and 0 past k
+abbrev pub Sized : Shape → Type 0
+Sized s = (j : ℕ) → (getD (s .sizes) j 0 ≤ 512) × (s .k ≤ j → getD (s .sizes) j 0 ≡ 0)
+
+-- "four for each rectangle", "n is the sum of the sizes"
+abbrev pub Filled : Shape → List ℤ → Type 0
+Filled s cells = length cells ≡ 4 * sum (s .sizes)
+
+-- each rectangle in range
+abbrev pub AllIn : List ℤ → Type 0
+AllIn cells = (i : ℕ) → i < count cells → Ranged (rectAt cells i)
+
+-- each cause applies in exactly the stated case, and where no earlier one does
+pub record CausesHold (s : Shape) (cells : List ℤ) : Type 0 where
+  pub none : (planCause s cells ≡ 0) ↔ (Layered s × Sized s × Filled s cells × AllIn cells)
+  pub one : (planCause s cells ≡ 1) ↔ (Layered s → ⊥)
+  pub two : (planCause s cells ≡ 2) ↔ (Layered s × (Sized s → ⊥))
+  pub three : (planCause s cells ≡ 3) ↔ (Layered s × Sized s × (Filled s cells → ⊥))
+  pub four : (planCause s cells ≡ 4) ↔ (Layered s × Sized s × Filled s cells × (AllIn cells → ⊥))
+
+-- ---- the sweep order
 -- the numbers 0 to n − 1 and no others
-abbrev pub Numbers : ℕ → List ℕ → Type 0
-Numbers n l = (k : ℕ) → List·Memᴰ k l ↔ (k < n)
+abbrev pub AllBelow : ℕ → List ℕ → Type 0
+AllBelow n l = (i : ℕ) → List·Memᴰ i l ↔ (i < n)
 
 -- by left, then layer, then place
 abbrev pub Swept : Shape → List ℤ → List ℕ → Type 0
 Swept s cells l = Pairwise (λ a b. Earlier (layers s cells) (spotOf (sizesOf s) a) (spotOf (sizesOf s) b)) l
 
-pub record SweepOrder (s : Shape) (cells : List ℤ) : Type 0 where
-  -- each number is that of one rectangle, as they lie in the cells
-  pub spots : (k : ℕ) → k < sum (s .sizes) → Has (layers s cells) (spotOf (sizesOf s) k) × (rectOf (layers s cells) (spotOf (sizesOf s) k) ≡ rectAt cells k)
+pub record SweepHolds (s : Shape) (cells : List ℤ) : Type 0 where
+  -- n rectangles lie in the cells
+  pub counted : count cells ≡ sum (s .sizes)
+  -- numbers run by layer and then place: place p of layer j, from 0, comes after all earlier layers
+  pub numbering : (j p : ℕ) → p < getD (sizesOf s) j 0 → spotOf (sizesOf s) (sum (take j (sizesOf s)) + p) ≡ record { layer = j; place = p }
+  -- each number is that of a rectangle, as they lie in the cells
+  pub spots : (i : ℕ) → i < sum (s .sizes) → Has (layers s cells) (spotOf (sizesOf s) i) × (rectOf (layers s cells) (spotOf (sizesOf s) i) ≡ rectAt cells i)
   -- the order is a permutation of these numbers
-  pub numbers : Numbers (sum (s .sizes)) (sweepOrder cells)
+  pub permutes : AllBelow (sum (s .sizes)) (sweepOrder cells)
   pub once : Distinct (sweepOrder cells)
   -- strictly ascending
   pub ascending : Swept s cells (sweepOrder cells)
   -- ... and the only such list
-  pub only : (l : List ℕ) → Numbers (sum (s .sizes)) l → Swept s cells l → l ≡ sweepOrder cells
+  pub only : (l : List ℕ) → AllBelow (sum (s .sizes)) l → Swept s cells l → l ≡ sweepOrder cells
+
+pub record Plans : Type 0 where
+  pub causes : (s : Shape) (cells : List ℤ) → CausesHold s cells
+  pub sweep : (s : Shape) (cells : List ℤ) → Sound s cells → SweepHolds s cells

@@ -3,7 +3,7 @@ use crate::Shape;
 use crate::rect_at;
 use geometry::in_range;
 ghost use mathlib.Core.Path.{_≡_};
-ghost use Prim.Native.Nat.{ℕ, _*_, _≤_};
+ghost use Prim.Native.Nat.{_*_, _≤_};
 ghost use lib.ListN.{length};
 ghost use Rattle.lists.specs.Lists.{sum};
 ghost use Rattle.plan.specs.Plan.{count, sizeFits, sizesFit, allRanged, planCause};

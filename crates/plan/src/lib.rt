@@ -4,11 +4,11 @@
 mod checks;
 mod order;
 
-use geometry::Rect;
 pub use checks::plan_cause;
+use geometry::Rect;
 pub use order::is_order;
 ghost use mathlib.Core.Path.{_≡_};
-ghost use Prim.Native.Nat.{ℕ, _+_, _*_, _≤_};
+ghost use Prim.Native.Nat.{_+_, _*_, _≤_};
 ghost use lib.ListN.{length, take, drop};
 ghost use Rattle.plan.specs.Plan.{rectAt};
 ghost use Rattle.plan.specs.Sweep.{orderAnswer, orderCause, orderNumber, orderAfter};

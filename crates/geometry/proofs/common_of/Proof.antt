@@ -3,24 +3,16 @@ use Rattle.geometry.proofs.Machine.{read-back₂, rect-eq, Fitting}
 use Rattle.geometry.specs.Rectangles.{common, maxZ, minZ}
 use Rattle.geometry.proofs.common_of.Statement.{statement}
 use Rattle.geometry.proofs.common_of.Tie as tie
-use Rattle.geometry.proofs.common_of.Reads as reads
-use Rattle.geometry.proofs.common_of.Lts as lts
-use Rattle.geometry.proofs.max_of.Reads as max-of-reads
-use Rattle.geometry.proofs.min_of.Reads as min-of-reads
 
--- src/lib.rt:35:15
 max-of-requires : tie.Need-max-of-requires
 max-of-requires c κs = search needs
 
--- src/lib.rt:36:17
 max-of-requires-2 : tie.Need-max-of-requires-2
 max-of-requires-2 c κs = search needs
 
--- src/lib.rt:37:16
 min-of-requires : tie.Need-min-of-requires
 min-of-requires c κs = search needs
 
--- src/lib.rt:38:14
 min-of-requires-2 : tie.Need-min-of-requires-2
 min-of-requires-2 c κs = search needs
 

@@ -1,6 +1,6 @@
 use borrow.Author.Needs.{needs}
-use mathlib.Core.Path.{_≡_, _∙_}
-use mathlib.Core.Bool.{true, false}
+use mathlib.Core.Path.{_≡_}
+use mathlib.Core.Bool.{true}
 use Rattle.geometry.specs.Rectangles.{inReach, inRange}
 use Rattle.geometry.proofs.Machine.{Fitting, reach-yes, reach-no}
 use Rattle.geometry.proofs.in_range.Statement.{statement}

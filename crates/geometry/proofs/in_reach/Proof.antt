@@ -4,8 +4,6 @@ use mir.Facts.{toZ-ofZ}
 use Rattle.geometry.specs.Rectangles.{inReach}
 use Rattle.geometry.proofs.in_reach.Statement.{statement}
 use Rattle.geometry.proofs.in_reach.Tie as tie
-use Rattle.geometry.proofs.in_reach.Reads as reads
-use Rattle.geometry.proofs.in_reach.Lts as lts
 
 sub-if1 : tie.Need-sub-if1
 sub-if1 c = search needs

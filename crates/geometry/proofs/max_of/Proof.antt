@@ -3,8 +3,6 @@ use mir.Facts.{toZ-ofZ}
 use Rattle.geometry.specs.Rectangles.{maxZ}
 use Rattle.geometry.proofs.max_of.Statement.{statement}
 use Rattle.geometry.proofs.max_of.Tie as tie
-use Rattle.geometry.proofs.max_of.Reads as reads
-use Rattle.geometry.proofs.max_of.Lts as lts
 
 returns : tie.Need-returns
 unfolding maxZ

@@ -3,8 +3,6 @@ use mir.Facts.{toZ-ofZ}
 use Rattle.geometry.specs.Rectangles.{minZ}
 use Rattle.geometry.proofs.min_of.Statement.{statement}
 use Rattle.geometry.proofs.min_of.Tie as tie
-use Rattle.geometry.proofs.min_of.Reads as reads
-use Rattle.geometry.proofs.min_of.Lts as lts
 
 returns : tie.Need-returns
 unfolding minZ

@@ -19,7 +19,7 @@ plan-cause-requires c κs = search needs
 
 returns : tie.Need-returns
 returns c =
-    let a = c .before .before .before .args in row-refused (a .t1) (a .cells .now) (a .row .now) _ (c .before .plan-cause .ensures) (c .if1 .taken)
+    let a = c .before .before .before .args in row-refused (a .t1) (a .cells .now) (a .places .now) _ (c .before .plan-cause .ensures) (c .if1 .taken)
 
 cast-row-among : tie.Need-cast-row-among
 cast-row-among c = search needs
@@ -32,7 +32,7 @@ returns-2 : tie.Need-returns-2
 returns-2 c =
     let e = c .before .before .before .before in
     let a = e .before .before .before .args in
-    row-accepted (a .t1) (a .cells .now) (a .row .now) _ (sound e) (c .row-among .ensures)
+    row-accepted (a .t1) (a .cells .now) (a .places .now) _ (sound e) (c .row-among .ensures)
 
 pub row-spec : {M : Type 1} → statement M
 row-spec =

@@ -5,7 +5,6 @@ use mathlib.Core.Path.{_≡_, refl, sym, ap, _∙_}
 use mathlib.Core.Bool.{true}
 use borrow.Author.Tests.{not-true, not-false}
 use Rattle.geometry.specs.Rectangles.{inRange}
-use Rattle.plan.specs.Plan.{count}
 use Rattle.plan.specs.Plan.{allRanged}
 use Rattle.plan.proofs.Plan.{ranged-more, ranged-not, ranged-end}
 use Rattle.plan.proofs.checks.all_ranged.Statement.{statement}

@@ -1,6 +1,5 @@
 -- `plan::checks::plan_cause` meets its contract: a case for each cause, each with what the checks before it found.
 use borrow.Author.Tests.{not-true, not-false}
-use native.Mathlib.Omega.{arith}
 use Prim.Native.Nat.{ℕ, _*_}
 use lib.ListN.{length}
 use mathlib.Core.Path.{_≡_, sym, ap, _∙_}

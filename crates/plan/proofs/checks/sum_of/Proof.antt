@@ -2,7 +2,6 @@
 use native.Mathlib.Omega.{arith}
 use Prim.Native.Nat.{_-_}
 use lib.ListN.{length}
-use mathlib.Core.Path.{refl}
 use Rattle.plan.proofs.Plan.{Summed, summed-more, summed-end}
 use Rattle.plan.proofs.checks.sum_of.Statement.{statement}
 use Rattle.plan.proofs.checks.sum_of.Tie as tie
