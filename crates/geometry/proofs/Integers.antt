@@ -160,12 +160,6 @@ pub ruleset zarith = (arith, leZ→, →leZ, ltZ→, →ltZ, le→, →le, lt→
 pub refl-le : (a : ℤ) → a ≤ℤ a
 refl-le a = omega zarith
 
-pub trans-le : (a b c : ℤ) → a ≤ℤ b → b ≤ℤ c → a ≤ℤ c
-trans-le a b c h k = omega zarith
-
-pub antisym-le : (a b : ℤ) → a ≤ℤ b → b ≤ℤ a → a ≡ b
-antisym-le a b h k = omega zarith
-
 pub total-le : (a b : ℤ) → (a ≤ℤ b) ⊎ (b <ℤ a)
 total-le a b = go (total (up a + dn b) (up b + dn a))
   where

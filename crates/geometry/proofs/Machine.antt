@@ -1,12 +1,11 @@
 -- What the machine reads back of signed numbers and rectangles, and the tests as the code makes them.
 use mathlib.Core.Path.{_≡_, sym, ap, ap₂, _∙_}
-use mathlib.Core.Bool.{Bool, true, false, not}
+use mathlib.Core.Bool.{Bool, true, false}
 use Prim.Native.Nat.{ℕ, _*_, _<_}
 use native.Mathlib.Nat.{mul-le-mul, lt-of-le-of-lt, le-pred-of-lt}
 use lib.Dec.{T, lit<}
 use lib.IntN.{ℤ, natAbs, _-ℤ_}
 use lib.Signed.{leZ, ltZ, nonNeg, _≤ℤ_}
-use borrow.Author.Tests.{not-true, not-false}
 use mir.Syntax.{Width, w32, w64}
 use mir.Val.{SFits, Fits, toZ, ofZ}
 use mir.Facts.{toZ-ofZ}
@@ -16,15 +15,8 @@ use Rattle.geometry.specs.Rectangles.{common, nonempty, meets, meeting, 
 use Rattle.geometry.proofs.Integers.{zarith, sub-law, one-side, size-law, nonNeg-law, →sfits, sfits→}
 
 -- ---- what the machine reads back, and a record by its fields
-pub read-back : {w : Width} {z y : ℤ} → SFits w z → z ≡ y → toZ w (ofZ w z) ≡ y
-read-back f e = toZ-ofZ f ∙ e
-
 pub rect-eq : {a b : Rect} → a .left ≡ b .left → a .bottom ≡ b .bottom → a .right ≡ b .right → a .top ≡ b .top → a ≡ b
 rect-eq p q r s = λ i. record { left = p i; bottom = q i; right = r i; top = s i }
-
--- two numbers with the same bits, which is what `==` on signed numbers tells
-pub of-bits : {w : Width} {x y : ℤ} → SFits w x → SFits w y → ofZ w x ≡ ofZ w y → x ≡ y
-of-bits {w} f g e = sym (toZ-ofZ f) ∙ ap (toZ w) e ∙ toZ-ofZ g
 
 pub read-back₂ : {w : Width} (f : ℤ → ℤ → ℤ) {z x y : ℤ} → SFits w z → SFits w x → SFits w y → z ≡ f (toZ w (ofZ w x)) (toZ w (ofZ w y)) → toZ w (ofZ w z) ≡ f x y
 read-back₂ f fz fx fy e = toZ-ofZ fz ∙ e ∙ ap₂ f (toZ-ofZ fx) (toZ-ofZ fy)
@@ -60,11 +52,8 @@ module _ (a b c : Rect) (t : Bool) (made : c ≡ common a b) (told : t ≡ nonem
   unfolding meeting meets
   meet-else e = cc
 
-pub reach-yes : {z : ℤ} {v : Bool} → SFits w32 z → v ≡ inReach (toZ w32 (ofZ w32 z)) → not v ≡ false → inReach z ≡ true
-reach-yes {z} {v} f e h = sym (ap inReach (toZ-ofZ f)) ∙ sym e ∙ not-false v h
-
-pub reach-no : {z : ℤ} {v : Bool} → SFits w32 z → v ≡ inReach (toZ w32 (ofZ w32 z)) → not v ≡ true → inReach z ≡ false
-reach-no {z} {v} f e h = sym (ap inReach (toZ-ofZ f)) ∙ sym e ∙ not-true v h
+pub read-reach : {z : ℤ} {v : Bool} → SFits w32 z → v ≡ inReach (toZ w32 (ofZ w32 z)) → v ≡ inReach z
+read-reach f e = e ∙ ap inReach (toZ-ofZ f)
 
 -- ---- differences of 32-bit numbers, taken in 64 bits
 module _ {a b : ℤ} (f : SFits w32 a) (g : SFits w32 b) where

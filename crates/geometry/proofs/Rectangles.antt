@@ -93,10 +93,6 @@ point-meets a b x y h k =
     let p = in-common x y a b h k in
     and-true (leZ (c .left) (c .right)) (leZ (c .bottom) (c .top)) (omega zarith) (omega zarith)
 
-pub meets-comm : (a b : Rect) → meets a b ≡ meets b a
-unfolding meets
-meets-comm a b = ap nonempty (common-comm a b)
-
 -- what a meeting tells of two rectangles
 module _ (a b : Rect) (m : Meeting) (made : m ≡ meeting a b) where
   pub meeting-common : (c : Rect) → m ≡ Common c → (meets a b ≡ true) × (c ≡ common a b)

@@ -1,3 +1,4 @@
+-- `geometry::common_of`: side by side.
 use borrow.Author.Needs.{needs, sfits-of}
 use Rattle.geometry.proofs.Machine.{read-back₂, rect-eq, Fitting}
 use Rattle.geometry.specs.Rectangles.{common, maxZ, minZ}

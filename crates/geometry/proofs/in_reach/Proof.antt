@@ -1,3 +1,4 @@
+-- `geometry::in_reach`.
 use borrow.Author.Needs.{needs}
 use mir.Syntax.{w32}
 use mir.Facts.{toZ-ofZ}

@@ -1,3 +1,4 @@
+-- `geometry::is_nonempty`: the sides compare as numbers do.
 use borrow.Author.Needs.{needs}
 use mathlib.Core.Path.{_∙_, ap₂}
 use lib.Signed.{leZ}

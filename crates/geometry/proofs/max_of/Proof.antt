@@ -1,3 +1,4 @@
+-- `geometry::max_of`.
 use mir.Syntax.{w32}
 use mir.Facts.{toZ-ofZ}
 use Rattle.geometry.specs.Rectangles.{maxZ}

@@ -1,3 +1,4 @@
+-- `geometry::meet`: a common rectangle that holds a point, or not.
 use borrow.Author.Needs.{needs}
 use Rattle.geometry.proofs.Machine.{meet-then, meet-else}
 use Rattle.geometry.proofs.meet.Statement.{statement}

@@ -1,4 +1,4 @@
--- `join::all_fit` meets its contract. The invariant: what is left to test decides as the whole does. The measure is what is left.
+-- `join::all_fit`. The invariant: what is left to test decides as the whole does. The measure is what is left.
 use mathlib.Core.Path.{refl, sym}
 use native.Mathlib.Omega.{arith}
 use Prim.Native.Nat.{_-_}

@@ -1,3 +1,4 @@
+-- `plan::rect_at`.
 use borrow.Author.Needs.{needs}
 use Rattle.plan.specs.Plan.{rectAt}
 use Rattle.plan.proofs.rect_at.Statement.{statement}

@@ -1,4 +1,4 @@
--- `plan::checks::all_ranged` meets its contract. The invariant: the rectangles passed are in range.
+-- `plan::checks::all_ranged`. The invariant: the rectangles passed are in range.
 use native.Mathlib.Omega.{arith}
 use Prim.Native.Nat.{_≤_, _-_}
 use mathlib.Core.Path.{_≡_, refl, sym, ap, _∙_}

@@ -1,4 +1,4 @@
--- `plan::checks::plan_cause` meets its contract: a case for each cause, each with what the checks before it found.
+-- `plan::checks::plan_cause`: a case for each cause, each with what the checks before it found.
 use borrow.Author.Tests.{not-true, not-false}
 use Prim.Native.Nat.{ℕ, _*_}
 use lib.ListN.{length}

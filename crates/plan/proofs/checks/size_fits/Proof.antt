@@ -1,4 +1,4 @@
--- `plan::checks::size_fits` meets its contract.
+-- `plan::checks::size_fits`.
 use native.Mathlib.Omega.{arith}
 use Rattle.plan.proofs.Plan.{size-large, size-lower, size-past}
 use Rattle.plan.proofs.checks.size_fits.Statement.{statement}

@@ -1,4 +1,4 @@
--- `plan::checks::sizes_fit` meets its contract. The invariant: what is left to test decides as the whole does.
+-- `plan::checks::sizes_fit`. The invariant: what is left to test decides as the whole does.
 use native.Mathlib.Omega.{arith}
 use Prim.Native.Nat.{_-_}
 use lib.ListN.{length}

@@ -1,4 +1,4 @@
--- `plan::checks::sum_of` meets its contract. The invariant: the sum so far and the sizes that are left add up to the whole.
+-- `plan::checks::sum_of`. The invariant: the sum so far and the sizes that are left add up to the whole.
 use native.Mathlib.Omega.{arith}
 use Prim.Native.Nat.{_-_}
 use lib.ListN.{length}
