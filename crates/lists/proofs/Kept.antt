@@ -138,6 +138,12 @@ length-without i [] h = absurd (omega arith)
 length-without zero (a ∷ l) h = refl
 length-without (suc i) (a ∷ l) h = ap suc (length-without i l (omega arith))
 
+-- a list without an element is no longer
+pub without-short : {A : Type 0} (i : ℕ) (l : List A) → length (without i l) ≤ length l
+without-short i [] = omega arith
+without-short zero (a ∷ l) = omega arith
+without-short (suc i) (a ∷ l) = omega (arith, without-short i l)
+
 -- ---- f at each of n numbers
 pub length-upto : {A : Type 0} (f : ℕ → A) (p m : ℕ) → length (upto f p m) ≡ m
 length-upto f p zero = refl

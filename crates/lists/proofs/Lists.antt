@@ -116,3 +116,19 @@ module _ {A B : Type 0} where
   pub pairwise-of-map : {R : B → B → Type 0} {Q : A → A → Type 0} (g : A → B) → ((a b : A) → Q a b → R (g a) (g b)) → {l : List A} → Pairwise Q l → Pairwise R (map g l)
   pairwise-of-map g f done = done
   pairwise-of-map g f (_then_ {a = a} h hs) = _then_ (all-of-map g (all-map (f a) h)) (pairwise-of-map g f hs)
+
+module _ {A : Type 0} {P : A → Type 0} where
+  -- what holds of each element holds of all
+  pub all-of-mem : (l : List A) → ((a : A) → List·Memᴰ a l → P a) → All P l
+  all-of-mem [] f = none-left
+  all-of-mem (a ∷ l) f = _and_ (f a (List·Memᴰ·head refl)) (all-of-mem l (λ b m. f b (List·Memᴰ·tail m)))
+
+  -- what holds of two lists in a row holds of each of them
+  pub all-parts : (l : List A) {m : List A} → All P (l ++ m) → All P l × All P m
+  all-parts [] h = (none-left, h)
+  all-parts (a ∷ l) (_and_ h hs) = let p = all-parts l hs in (_and_ h (p .0), p .1)
+
+-- what holds of the images of all holds of all, of their images
+pub all-under : {A B : Type 0} {P : B → Type 0} (f : A → B) (l : List A) → All P (map f l) → All (λ a. P (f a)) l
+all-under f [] h = none-left
+all-under f (a ∷ l) (_and_ h hs) = _and_ h (all-under f l hs)

@@ -20,6 +20,17 @@ use Rattle.plan.specs.Causes.{unless, _orElse_}
 use Rattle.plan.specs.Frames.{Framed}
 use Rattle.plan.specs.Plan.{rectAt, count, sizesOf, sizeFits, sizesFit, allRanged, planCause, Sound}
 
+-- ---- two checks
+-- where neither of two causes applies
+pub or-else-zero : (a b : ℕ) → (a orElse b) ≡ 0 → (a ≡ 0) × (b ≡ 0)
+or-else-zero zero b e = (refl, e)
+or-else-zero (suc a) b e = absurd (omega arith)
+
+-- a check that is passed
+pub unless-zero : (t : Bool) (c : ℕ) → unless t (suc c) ≡ 0 → t ≡ true
+unless-zero true c e = refl
+unless-zero false c e = absurd (omega arith)
+
 -- ---- a size
 pub size-large : (k j n : ℕ) → 512 < n → false ≡ sizeFits k j n
 unfolding sizeFits

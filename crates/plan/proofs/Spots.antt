@@ -39,6 +39,16 @@ spot-number (n ∷ ns) (suc i) p h =
     let e : n + sum (take i ns) + p - n ≡ numberAt ns i p = omega arith in
     rw (le-ltb (n + sum (take i ns) + p) n (omega arith), e) (ap nextLayer (spot-number ns i p h))
 
+-- a number is that of its layer and place
+pub number-spot : (ns : List ℕ) (k : ℕ) → sum (take (spotOf ns k .layer) ns) + spotOf ns k .place ≡ k
+number-spot [] k = omega arith
+number-spot (n ∷ ns) k = go (ltb k n) refl (number-spot ns (k - n))
+  where
+    go : (t : Bool) → ltb k n ≡ t → sum (take (spotOf ns (k - n) .layer) ns) + spotOf ns (k - n) .place ≡ k - n
+        → let s = cond t (record { layer = 0; place = k }) (nextLayer (spotOf ns (k - n))) in sum (take (s .layer) (n ∷ ns)) + s .place ≡ k
+    go true e i = omega arith
+    go false e i = omega (arith, ltb-false k n e)
+
 -- numbers ascend by layer, then place
 abbrev Ahead : Spot → Spot → Type 0
 Ahead a b = (a .layer < b .layer) ⊎ ((a .layer ≡ b .layer) × (a .place < b .place))

@@ -1,0 +1,1 @@
+// The cases that 01 marks (P), as one list and one fact that the checker computes. Specifications and proofs only; no code.

@@ -1,0 +1,43 @@
+// Cursors, pages and whole runs: the types of the calls' answers. What the calls answer is defined in specs/, what demand 3 says of
+// lists of calls is proved in proofs/; the code of the calls is in the crate `pager`.
+
+// Names the probe due next (01: a ticket): the guard's layer, from 1, and place, how many slots are filled, the chosen places, first
+// slot first, unfilled ones 0, and the place to try. Or the walk has ended, and all else is 0.
+pub struct Cursor {
+    pub ended: bool,
+    pub layer: u32,
+    pub place: u32,
+    pub filled: u32,
+    pub chosen: [u32; 5],
+    pub next: u32,
+}
+
+// What the fresh-cursor call answers: the number of a refusal or 0, and the cursor of the first probe, or ended.
+pub struct Fresh {
+    pub number: u32,
+    pub cursor: Cursor,
+}
+
+// Why a page stopped.
+pub enum Stop {
+    Ended,
+    Full,
+    Spent,
+    Refused(u32),
+}
+
+// What the page call answers: why it stopped, how many rows it put into the table, how many probes it did, the sum of its rows'
+// areas, and the cursor for what is due next.
+pub struct Page {
+    pub stop: Stop,
+    pub rows: u32,
+    pub probes: u32,
+    pub area: u64,
+    pub cursor: Cursor,
+}
+
+// What the whole run answers: how many rows, how many probes, and the sum of the areas.
+pub enum Run {
+    Refused(u32),
+    Done(u32, u64, u64),
+}
