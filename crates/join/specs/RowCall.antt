@@ -6,6 +6,7 @@ use lib.IntN.{ℤ}
 use lib.Dec.{ltb}
 use Rattle.geometry.specs.Rectangles.{nonempty}
 use Rattle.plan.specs.declared.Shape.{Shape}
+use Rattle.plan.specs.Causes.{onCause}
 use Rattle.plan.specs.Plan.{Layer, layers, planCause}
 use Rattle.join.specs.declared.RowAnswer.{RowAnswer}
 use Rattle.join.specs.declared.RowAnswer.the-variants.{Refused, NoRow, Row}
@@ -38,17 +39,16 @@ unfoldable pub told : List Layer → List ℕ → RowValues
 told ls row = cond (isRow ls row) (record { number = 0; layer = suc (guardLayer (rects ls row)); area = areaIn ls row }) noRow
 
 -- 01: "A refusal returns its number and 0 for all else"
-abbrev pub refusedOr : ℕ → RowValues → RowValues
-refusedOr zero values = values
-refusedOr (suc cause) values = record { number = suc cause; layer = 0; area = 0 }
+abbrev pub refusedRow : ℕ → RowValues
+refusedRow cause = record { number = cause; layer = 0; area = 0 }
 
 -- the row call; its checks are 1 to 4
 unfoldable pub rowCall : Shape → List ℤ → List ℕ → RowValues
-rowCall s cells row = refusedOr (planCause s cells) (told (layers s cells) row)
+rowCall s cells row = onCause (planCause s cells) (told (layers s cells) row) refusedRow
 
 -- 01's number and values of each answer
 abbrev pub rowValues : RowAnswer → RowValues
-rowValues (Refused cause) = record { number = cause; layer = 0; area = 0 }
+rowValues (Refused cause) = refusedRow cause
 rowValues NoRow = noRow
 rowValues (Row layer area) = record { number = 0; layer = layer; area = area }
 

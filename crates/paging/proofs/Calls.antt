@@ -20,7 +20,7 @@ use Rattle.search.specs.Calls as Search
 use Rattle.walk.specs.Walk.{walkOf, placesOf}
 use Rattle.walk.proofs.Theorems.{walk-is-table}
 use Rattle.paging.specs.Cursors.{dueCursor, resume}
-use Rattle.paging.specs.Calls.{room, fill, freshCause, leftIn, pageCause, paged, stopOf, pageCall, pageTable}
+use Rattle.paging.specs.Calls.{capacity, fill, freshCause, leftIn, pageCause, paged, stopOf, pageCall, pageTable}
 use Rattle.paging.specs.Theorems.{Call, cause, answer, after, rowsIn}
 use Rattle.plan.proofs.Plan.{or-else-zero}
 use Rattle.search.proofs.Paging.{page-all}
@@ -46,7 +46,7 @@ rowsFrom x = rowsIn (x .shape .k) (answer x .rows) (after x)
 
 -- the call allows a probe and a row on a plan of this shape
 abbrev pub allows : Shape → Call → Bool
-allows s x = ltb 0 (x .budget) && ltb 0 (room s (x .table))
+allows s x = ltb 0 (x .budget) && ltb 0 (capacity s (x .table))
 
 -- the call answers what the search's call does
 pub record Agrees (s : Shape) (cells : List ℤ) (x : Call) : Type 0 where
@@ -96,9 +96,9 @@ accepted-plan x e = or-else-zero (planCause (x .shape) (x .cells)) _ (or-else-ze
 page-rows : {P : Row Rect → Type 0} (s : Shape) (cells : List ℤ) (x : Call) → All P (rowsOf rowOf (walkOf s cells)) → All P (pageOn s cells x .rows)
 page-rows {P} s cells x h = go (resume s cells (x .cursor)) refl
   where
-    go : (o : Option (List (Probe Rect))) → resume s cells (x .cursor) ≡ o → All P (page rowOf (x .budget) (room s (x .table)) (leftIn o) .rows)
+    go : (o : Option (List (Probe Rect))) → resume s cells (x .cursor) ≡ o → All P (page rowOf (x .budget) (capacity s (x .table)) (leftIn o) .rows)
     go none e = none-left
-    go (some w) e = let l = resume-is s cells (x .cursor) w e in page-all rowOf (x .budget) (room s (x .table)) (l .before) w (rw (l .splits) h)
+    go (some w) e = let l = resume-is s cells (x .cursor) w e in page-all rowOf (x .budget) (capacity s (x .table)) (l .before) w (rw (l .splits) h)
 
 -- on its own plan
 agrees-own : (x : Call) → length (x .shape .sizes) ≡ 6 → cause x ≡ 0 → Agrees (x .shape) (x .cells) x

@@ -21,7 +21,7 @@ use Rattle.search.proofs.Calls.{delivered}
 use Rattle.walk.specs.Walk.{walkOf, placesOf}
 use Rattle.paging.specs.declared.Cursor.{Cursor}
 use Rattle.paging.specs.Cursors.{dueCursor, resume}
-use Rattle.paging.specs.Calls.{room}
+use Rattle.paging.specs.Calls.{capacity}
 use Rattle.paging.specs.Theorems.{Call, cause, answer, Chain, end, refused, accepted, handed, reported, allowing}
 use Rattle.paging.proofs.Resume.{resume-due}
 use Rattle.paging.proofs.Calls.{pageIf, pageOn, answered, Agrees, answered-none, answered-some, accepted-plan, agrees-refused, agrees-accepted}
@@ -34,7 +34,7 @@ module _ (s : Shape) (cells : List ℤ) where
   reported-same h = ap sum (map-same _ _ (all-map (λ x a. a .probes) h))
 
   -- as many of them allow a probe and a row
-  pub allowing-same : {xs : List Call} → All (Agrees s cells) xs → allowing xs ≡ Search.allowing (answered s cells) (λ x. x .budget) (λ x. room s (x .table)) xs
+  pub allowing-same : {xs : List Call} → All (Agrees s cells) xs → allowing xs ≡ Search.allowing (answered s cells) (λ x. x .budget) (λ x. capacity s (x .table)) xs
   allowing-same h = ap length (keep-same _ _ (all-map (λ x a. a .allowed) h))
 
   -- they hand out the same rows, as places
@@ -50,7 +50,7 @@ module _ (s : Shape) (cells : List ℤ) where
 -- ---- chains
 -- what demand 3 says of the calls as the search's
 abbrev pub Delivers : Shape → List ℤ → List Call → Type 0
-Delivers s cells xs = Delivered rowOf (walkOf s cells) (dueCursor s) (λ x. x .budget) (λ x. room s (x .table)) (answered s cells) xs
+Delivers s cells xs = Delivered rowOf (walkOf s cells) (dueCursor s) (λ x. x .budget) (λ x. capacity s (x .table)) (answered s cells) xs
 
 module _ (s : Shape) (cells : List ℤ) where
   -- where the plan is refused, so is every call
@@ -78,11 +78,11 @@ module _ (s : Shape) (cells : List ℤ) where
     pub chain-delivered : {c : Cursor} {xs : List Call} → (planCause s cells ≡ 0 → c ≡ dueCursor s (walkOf s cells)) → Chain s cells c xs → Delivers s cells xs
     chain-delivered f h =
         delivered rowOf (walkOf s cells) (dueCursor s) (resume s cells) (λ n l. resume-due s cells six n)
-        (λ x. x .cursor) (λ x. x .budget) (λ x. room s (x .table)) (answered s cells) one (chain-search (dueCursor s (walkOf s cells)) f h)
+        (λ x. x .cursor) (λ x. x .budget) (λ x. capacity s (x .table)) (answered s cells) one (chain-search (dueCursor s (walkOf s cells)) f h)
       where
-        one : (x : Call) (p : Paged (Probe Rect) (Row Rect)) (w : List (Probe Rect)) → answered s cells x ≡ some p → resume s cells (x .cursor) ≡ some w → p ≡ page rowOf (x .budget) (room s (x .table)) w
+        one : (x : Call) (p : Paged (Probe Rect) (Row Rect)) (w : List (Probe Rect)) → answered s cells x ≡ some p → resume s cells (x .cursor) ≡ some w → p ≡ page rowOf (x .budget) (capacity s (x .table)) w
         one x p w e r = go (cause x) (rw r at e)
           where
-            go : (c : ℕ) → pageIf c (page rowOf (x .budget) (room s (x .table)) w) ≡ some p → p ≡ page rowOf (x .budget) (room s (x .table)) w
+            go : (c : ℕ) → pageIf c (page rowOf (x .budget) (capacity s (x .table)) w) ≡ some p → p ≡ page rowOf (x .budget) (capacity s (x .table)) w
             go zero e = cc
             go (suc c) e = cc

@@ -20,7 +20,7 @@ use Rattle.search.specs.Paging.{rowsOf}
 use Rattle.walk.specs.Walk.{walkOf, placesOf}
 use Rattle.walk.proofs.Theorems.{walk-is-table}
 use Rattle.paging.specs.Cursors.{dueCursor}
-use Rattle.paging.specs.Calls.{room, freshCause, freshCall, runCause, runCall, runTable}
+use Rattle.paging.specs.Calls.{capacity, freshCause, freshCall, runCause, runCall, runTable}
 use Rattle.paging.specs.Theorems.{Call, Chain, handed, reported, Paging, WholeRun, Demand3}
 use Rattle.lists.proofs.Lists.{all-of-mem}
 use Rattle.plan.proofs.Plan.{unless-zero}
@@ -73,7 +73,7 @@ paging-holds s cells xs six c = record {
 -- ---- the whole run
 module _ (s : Shape) (cells : List ℤ) (order table : List ℕ) (sound : Sound s cells) (o : order ≡ sweepOrder cells) where
   -- only the table's room may refuse it
-  run-cause : runCause s cells order table ≡ unless (leb (length (tableOf s cells)) (room s table)) 7
+  run-cause : runCause s cells order table ≡ unless (leb (length (tableOf s cells)) (capacity s table)) 7
   unfolding runCause
   run-cause = rw (o, fresh-passes s cells (sound .passed))
 
@@ -90,7 +90,7 @@ module _ (s : Shape) (cells : List ℤ) (order table : List ℕ) (sound : Sound 
       n = length (tableOf s cells)
 
       m : ℕ
-      m = room s table
+      m = capacity s table
 
 -- ---- demand 3
 pub demand3 : Demand3

@@ -9,7 +9,7 @@ use lib.ListN.{length, drop}
 use Rattle.lists.specs.Lists.{sum, same}
 use Rattle.geometry.specs.declared.Rect.{Rect}
 use Rattle.plan.specs.declared.Shape.{Shape}
-use Rattle.plan.specs.Causes.{unless, _orElse_}
+use Rattle.plan.specs.Causes.{unless, _orElse_, onCause}
 use Rattle.plan.specs.Plan.{layers, planCause}
 use Rattle.plan.specs.Sweep.{sweepOrder}
 use Rattle.join.specs.Join.{areaIn}
@@ -29,8 +29,8 @@ use Rattle.paging.specs.Cursors.{endedCursor, dueCursor, resume}
 
 -- ---- tables
 -- 01: "A table of m cells takes m / k rows, rounded down, never more than 1,000,000."
-abbrev pub room : Shape → List ℕ → ℕ
-room s table = min (length table / s .k) 1000000
+abbrev pub capacity : Shape → List ℕ → ℕ
+capacity s table = min (length table / s .k) 1000000
 
 -- the cells of rows, one after the other
 abbrev pub cellsOf : List (List ℕ) → List ℕ
@@ -46,17 +46,13 @@ fill rows table = cellsOf rows ++ drop (length (cellsOf rows)) table
 unfoldable pub freshCause : Shape → List ℤ → List ℕ → ℕ
 freshCause s cells order = planCause s cells orElse unless (same order (sweepOrder cells)) 5
 
--- 01: "the fresh-ticket call returns Ended" on a refusal
-abbrev pub freshOr : ℕ → Cursor → Fresh
-freshOr zero c = record { number = 0; cursor = c }
-freshOr (suc cause) c = record { number = suc cause; cursor = endedCursor }
-
--- 01: "takes plan and order and returns the fresh ticket: the first trial, or Ended where the walk is empty"
+-- 01: "takes plan and order and returns the fresh ticket: the first trial, or Ended where the walk is empty"; a refusal returns Ended
 unfoldable pub freshCall : Shape → List ℤ → List ℕ → Fresh
-freshCall s cells order = freshOr (freshCause s cells order) (dueCursor s (walkOf s cells))
+freshCall s cells order =
+    onCause (freshCause s cells order) (record { number = 0; cursor = dueCursor s (walkOf s cells) }) (λ n. record { number = n; cursor = endedCursor })
 
 -- ---- the page call
--- the ticket names what is left of the walk
+-- the cursor (01: ticket) names a part of the walk
 abbrev pub named : Option (List (Probe Rect)) → Bool
 named none = false
 named (some w) = true
@@ -71,7 +67,7 @@ pageCause s cells order c = freshCause s cells order orElse unless (named (resum
 
 -- the page itself: with this budget, into a table with that room, over what is left at the cursor
 abbrev pub paged : Shape → List ℤ → Cursor → ℕ → List ℕ → Paged (Probe Rect) (Row Rect)
-paged s cells c budget table = page rowOf budget (room s table) (leftIn (resume s cells c))
+paged s cells c budget table = page rowOf budget (capacity s table) (leftIn (resume s cells c))
 
 abbrev pub stopOf : Halt → Stop
 stopOf Paging.Ended = Ended
@@ -92,25 +88,20 @@ pageOf s p =
     record { stop = stopOf (p .halt); rows = length (p .rows); probes = p .done; area = sum (map rowArea (p .rows)); cursor = dueCursor s (p .rest) }
 
 -- 01: "A refusal returns its number and 0 for all else; a page call also returns its ticket as given"
-abbrev pub pageOr : ℕ → Page → Cursor → Page
-pageOr zero p c = p
-pageOr (suc cause) p c = record { stop = Refused (suc cause); rows = 0; probes = 0; area = 0; cursor = c }
+abbrev pub refusedPage : Cursor → ℕ → Page
+refusedPage c cause = record { stop = Refused cause; rows = 0; probes = 0; area = 0; cursor = c }
 
 unfoldable pub pageCall : Shape → List ℤ → List ℕ → Cursor → ℕ → List ℕ → Page
-pageCall s cells order c budget table = pageOr (pageCause s cells order c) (pageOf s (paged s cells c budget table)) c
+pageCall s cells order c budget table = onCause (pageCause s cells order c) (pageOf s (paged s cells c budget table)) (refusedPage c)
 
--- a table that is filled with rows, or after a refusal what it was
-abbrev pub filledOr : ℕ → List (List ℕ) → List ℕ → List ℕ
-filledOr zero rows table = fill rows table
-filledOr (suc cause) rows table = table
-
+-- the table afterwards: filled with the page's rows, or after a refusal what it was
 unfoldable pub pageTable : Shape → List ℤ → List ℕ → Cursor → ℕ → List ℕ → List ℕ
-pageTable s cells order c budget table = filledOr (pageCause s cells order c) (map (placesOf s) (paged s cells c budget table .rows)) table
+pageTable s cells order c budget table = onCause (pageCause s cells order c) (fill (map (placesOf s) (paged s cells c budget table .rows)) table) (λ n. table)
 
 -- ---- the whole run
 -- its checks: 1 to 5, and 7 where "J has more rows than the table takes"
 unfoldable pub runCause : Shape → List ℤ → List ℕ → List ℕ → ℕ
-runCause s cells order table = freshCause s cells order orElse unless (leb (length (tableOf s cells)) (room s table)) 7
+runCause s cells order table = freshCause s cells order orElse unless (leb (length (tableOf s cells)) (capacity s table)) 7
 
 -- what it returns in 01's numbers
 pub record RunValues : Type 0 where
@@ -119,22 +110,23 @@ pub record RunValues : Type 0 where
   pub probes : ℕ
   pub area : ℕ
 
-abbrev pub runOr : ℕ → RunValues → RunValues
-runOr zero v = v
-runOr (suc cause) v = record { number = suc cause; rows = 0; probes = 0; area = 0 }
+abbrev pub refusedRun : ℕ → RunValues
+refusedRun cause = record { number = cause; rows = 0; probes = 0; area = 0 }
 
 -- 01: "returns rows, trials (the walk's length) and the area sum"
 unfoldable pub runCall : Shape → List ℤ → List ℕ → List ℕ → RunValues
 runCall s cells order table =
-    runOr (runCause s cells order table)
+    onCause (runCause s cells order table)
     (record { number = 0; rows = length (tableOf s cells); probes = length (walkOf s cells); area = sum (map (areaIn (layers s cells)) (tableOf s cells)) })
+    refusedRun
 
+-- the table afterwards: filled with all rows, or after a refusal what it was
 unfoldable pub runTable : Shape → List ℤ → List ℕ → List ℕ → List ℕ
-runTable s cells order table = filledOr (runCause s cells order table) (tableOf s cells) table
+runTable s cells order table = onCause (runCause s cells order table) (fill (tableOf s cells) table) (λ n. table)
 
 -- 01's number and values of each answer
 abbrev pub runValues : Run → RunValues
-runValues (Run.Refused cause) = record { number = cause; rows = 0; probes = 0; area = 0 }
+runValues (Run.Refused cause) = refusedRun cause
 runValues (Run.Done rows probes area) = record { number = 0; rows = rows; probes = probes; area = area }
 
 -- the answer that the call gives for its values

@@ -20,7 +20,7 @@ use Rattle.paging.specs.declared.Cursor.{Cursor}
 use Rattle.paging.specs.declared.Page.{Page}
 use Rattle.paging.specs.declared.Stop.the-variants.{Ended}
 use Rattle.paging.specs.Cursors.{dueCursor}
-use Rattle.paging.specs.Calls.{room, freshCall, pageCause, pageCall, pageTable, runCause, runCall, runTable}
+use Rattle.paging.specs.Calls.{capacity, freshCall, pageCause, pageCall, pageTable, runCause, runCall, runTable}
 
 -- ---- a page call: whatever it brings
 pub record Call : Type 0 where
@@ -66,7 +66,7 @@ reported xs = sum (map (λ x. answer x .probes) xs)
 
 -- 01: "A call allows a trial and a row when its budget is above 0 and its table takes at least one row." How many accepted calls do
 abbrev pub allowing : List Call → ℕ
-allowing xs = length (keep (λ x. eqb (cause x) 0 && (ltb 0 (x .budget) && ltb 0 (room (x .shape) (x .table)))) xs)
+allowing xs = length (keep (λ x. eqb (cause x) 0 && (ltb 0 (x .budget) && ltb 0 (capacity (x .shape) (x .table)))) xs)
 
 -- the last accepted call of a list: it, and none after it
 pub record Last (xs : List Call) (x : Call) : Type 0 where
@@ -98,7 +98,7 @@ pub record Paging (s : Shape) (cells : List ℤ) (xs : List Call) : Type 0 where
 
 -- "Given a sound plan and order, the whole run succeeds exactly when the table fits, and then hands out all its rows and reports that length."
 pub record WholeRun (s : Shape) (cells : List ℤ) (order table : List ℕ) : Type 0 where
-  pub succeeds : (runCause s cells order table ≡ 0) ↔ (length (tableOf s cells) ≤ room s table)
+  pub succeeds : (runCause s cells order table ≡ 0) ↔ (length (tableOf s cells) ≤ capacity s table)
   pub rows : runCause s cells order table ≡ 0 → rowsIn (s .k) (runCall s cells order table .rows) (runTable s cells order table) ≡ tableOf s cells
   pub counts : runCause s cells order table ≡ 0
       → runCall s cells order table ≡ record { number = 0; rows = length (tableOf s cells); probes = length (walkOf s cells); area = sum (map (areaIn (layers s cells)) (tableOf s cells)) }

@@ -12,3 +12,8 @@ unless false cause = cause
 abbrev pub _orElse_ : ℕ → ℕ → ℕ
 _orElse_ zero second = second
 _orElse_ (suc first) second = suc first
+
+-- the first where no cause applies, else what a refusal with that number is
+abbrev pub onCause : {A : Type 0} → ℕ → A → (ℕ → A) → A
+onCause zero accepted refused = accepted
+onCause (suc cause) accepted refused = refused (suc cause)
