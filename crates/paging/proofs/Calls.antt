@@ -3,6 +3,7 @@ use mathlib.Core.Path.{_≡_, refl, sym, ap, _∙_, subst₂}
 use mathlib.Core.List.{List, map}
 use mathlib.Core.Option.{Option, none, some}
 use mathlib.Core.Bool.{Bool, _&&_}
+use mathlib.Core.Logic.{_↔_}
 use Prim.Native.Nat.{ℕ, zero, suc}
 use lib.IntN.{ℤ}
 use lib.Dec.{eqb, ltb}
@@ -14,7 +15,8 @@ use Rattle.plan.specs.declared.Shape.{Shape}
 use Rattle.plan.specs.Plan.{layers, planCause, Sound}
 use Rattle.join.specs.Join.{areaIn}
 use Rattle.search.specs.Traversal.{Probe, Row, rowOf}
-use Rattle.search.specs.Paging.{Paged, page, rowsOf}
+use Rattle.search.specs.Paging.{Halt, Paged, page, rowsOf}
+use Rattle.search.specs.Paging as Paging
 use Rattle.search.specs.Calls.{accepts, doneIn}
 use Rattle.search.specs.Calls as Search
 use Rattle.walk.specs.Walk.{walkOf, placesOf}
@@ -56,6 +58,21 @@ pub record Agrees (s : Shape) (cells : List ℤ) (x : Call) : Type 0 where
   pub allowed : (eqb (cause x) 0 && allows (x .shape) x) ≡ (accepts (answered s cells x) && allows s x)
   pub stop : cause x ≡ 0 → answer x .stop ≡ stopOf (pageOn s cells x .halt)
   pub cursor : cause x ≡ 0 → answer x .cursor ≡ dueCursor s (pageOn s cells x .rest)
+
+-- a call tells a stop where its page does
+pub stop-is : (h j : Halt) → (stopOf h ≡ stopOf j) ↔ (h ≡ j)
+stop-is h j = (go h j, ap stopOf)
+  where
+    go : (h j : Halt) → stopOf h ≡ stopOf j → h ≡ j
+    go Paging.Ended Paging.Ended e = refl
+    go Paging.Ended Paging.Full e = cc
+    go Paging.Ended Paging.Spent e = cc
+    go Paging.Full Paging.Ended e = cc
+    go Paging.Full Paging.Full e = refl
+    go Paging.Full Paging.Spent e = cc
+    go Paging.Spent Paging.Ended e = cc
+    go Paging.Spent Paging.Full e = cc
+    go Paging.Spent Paging.Spent e = refl
 
 -- ---- refused
 -- a refused call answers no page

@@ -1,8 +1,12 @@
 pub mod Cursors
 pub mod Resume
+pub mod Named
+pub mod Causes
 pub mod Tables
 pub mod Calls
 pub mod Lasts
 pub mod Chains
 pub mod Lists
+pub mod Pages
+pub mod Runs
 pub mod Theorems

@@ -15,7 +15,7 @@ use Rattle.plan.specs.declared.Shape.{Shape}
 use Rattle.plan.specs.Plan.{Sound}
 use Rattle.join.specs.Table.{tableOf}
 use Rattle.search.specs.Traversal.{rowOf}
-use Rattle.search.specs.Paging.{Halt, rowsOf}
+use Rattle.search.specs.Paging.{rowsOf}
 use Rattle.search.specs.Paging as Paging
 use Rattle.search.specs.Calls.{lastOf}
 use Rattle.search.proofs.Paging.{rowsOf-++}
@@ -23,18 +23,11 @@ use Rattle.walk.specs.Walk.{walkOf, placesOf}
 use Rattle.walk.proofs.Theorems.{walk-is-table}
 use Rattle.paging.specs.declared.Stop.the-variants.{Ended}
 use Rattle.paging.specs.Cursors.{dueCursor}
-use Rattle.paging.specs.Calls.{stopOf}
 use Rattle.paging.specs.Theorems.{Call, cause, answer, handed, reported, allowing, Last}
 use Rattle.lists.proofs.Lists.{all-parts}
-use Rattle.paging.proofs.Calls.{pageOn, answered, Agrees, answered-some}
+use Rattle.paging.proofs.Calls.{pageOn, answered, Agrees, stop-is, answered-some}
 use Rattle.paging.proofs.Lasts.{Refuses, last-or-none, last-none, last-is}
 use Rattle.paging.proofs.Chains.{Delivers, reported-same, allowing-same, handed-same}
-
--- a call tells Ended where its page does
-ended-is : (h : Halt) → (stopOf h ≡ Ended) ↔ (h ≡ Paging.Ended)
-ended-is Paging.Ended = (λ e. refl, λ e. refl)
-ended-is Paging.Full = (λ e. cc, λ e. cc)
-ended-is Paging.Spent = (λ e. cc, λ e. cc)
 
 -- the rows of the first probes are the first rows of the table
 pub table-front : (s : Shape) (cells : List ℤ) → Sound s cells → (n : ℕ)
@@ -58,7 +51,7 @@ module _ (s : Shape) (cells : List ℤ) (xs : List Call) (all : All (Agrees s ce
   -- an accepted call tells Ended exactly where it reaches the walk's length
   pub call-ended : (ys : List Call) (x : Call) (zs : List Call) → xs ≡ ys ++ x ∷ zs → cause x ≡ 0 → (answer x .stop ≡ Ended) ↔ (reported (ys ++ x ∷ []) ≡ length (walkOf s cells))
   call-ended ys x zs e c =
-      let i = ended-is (pageOn s cells x .halt) in
+      let i = stop-is (pageOn s cells x .halt) Paging.Ended in
       let j = d .ended ys x zs (pageOn s cells x) e (answered-some s cells x c) in
       let a : All (Agrees s cells) ((ys ++ x ∷ []) ++ zs) = rw append-assoc (rw e at all) in
       let k = reported-same s cells (all-parts (ys ++ x ∷ []) a .0) in
@@ -73,7 +66,7 @@ module _ (s : Shape) (cells : List ℤ) (xs : List Call) (all : All (Agrees s ce
       go (inr y) e =
           let l = y .1 in
           let z : some (pageOn s cells (y .0) .halt) ≡ some Paging.Ended = rw (last-is s cells xs (y .0) l) at e in
-          (y .0, l, rw (at (l .before) (y .0) (l .behind) (l .is) .stop (l .accepted)) (ended-is (pageOn s cells (y .0) .halt) .1 cc))
+          (y .0, l, rw (at (l .before) (y .0) (l .behind) (l .is) .stop (l .accepted)) (stop-is (pageOn s cells (y .0) .halt) Paging.Ended .1 cc))
 
   -- its cursor is the one that is due then
   pub last-cursor : (x : Call) → Last xs x → answer x .cursor ≡ dueCursor s (drop (reported xs) (walkOf s cells))

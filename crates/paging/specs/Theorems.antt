@@ -1,26 +1,32 @@
--- Theorem: demand 3, over every list of page calls on a plan, and of the whole run. Proved in proofs/Theorems.antt.
+-- Theorem: demand 3, over every list of page calls on a plan, and of the whole run; and the causes of the calls. Proved in proofs/Theorems.antt.
+-- Sentences in quotes are the demand's; those of the scope paper begin with 01.
 use mathlib.Core.Path.{_≡_}
 use mathlib.Core.List.{List, [], _∷_, _++_, map}
-use mathlib.Core.Logic.{_↔_}
-use mathlib.Core.Bool.{_&&_}
-use Prim.Native.Nat.{ℕ, zero, suc, _^_, _≤_, _<_}
+use mathlib.Core.Bool.{false, _&&_}
+use mathlib.Core.Logic.{_↔_, _⊎_}
+use mathlib.Core.Option.{some}
+use Prim.Native.Nat.{ℕ, zero, suc, _-_, _*_, _≤_, _<_}
 use lib.IntN.{ℤ}
+use Rattle.geometry.specs.declared.Rect.{Rect}
 use lib.Dec.{eqb, ltb}
-use lib.ListN.{length, take, drop}
+use lib.ListN.{length, getD, take, drop}
 use Rattle.lists.specs.Lists.{All, sum, keep}
 use Rattle.plan.specs.declared.Shape.{Shape}
-use Rattle.plan.specs.Plan.{layers, Sound}
-use Rattle.plan.specs.Sweep.{sweepOrder}
+use Rattle.plan.specs.Plan.{layers, planCause, Sound}
+use Rattle.plan.specs.Sweep.{Has, sweepOrder}
 use Rattle.join.specs.Join.{areaIn}
 use Rattle.join.specs.Table.{tableOf}
-use Rattle.search.specs.Traversal.{rowOf}
+use Rattle.join.specs.Theorems.{TableHolds}
+use Rattle.search.specs.Traversal.{Probe, rowOf}
 use Rattle.search.specs.Paging.{rowsOf}
-use Rattle.walk.specs.Walk.{walkOf, placesOf}
+use Rattle.search.specs.Names.{Named}
+use Rattle.walk.specs.Walk.{guardAt, walkOf, placesOf, rowArea}
+use Rattle.walk.specs.Theorems.{WalkIsTable}
 use Rattle.paging.specs.declared.Cursor.{Cursor}
 use Rattle.paging.specs.declared.Page.{Page}
-use Rattle.paging.specs.declared.Stop.the-variants.{Ended}
-use Rattle.paging.specs.Cursors.{dueCursor}
-use Rattle.paging.specs.Calls.{capacity, freshCall, pageCause, pageCall, pageTable, runCause, runCall, runTable}
+use Rattle.paging.specs.declared.Stop.the-variants.{Ended, Full, Spent}
+use Rattle.paging.specs.Cursors.{endedCursor, dueCursor, resume}
+use Rattle.paging.specs.Calls.{capacity, freshCause, freshCall, pageCause, pageCall, pageTable, runCause, refusedRun, runCall, runTable}
 
 -- ---- a page call: whatever it brings
 pub record Call : Type 0 where
@@ -68,7 +74,7 @@ reported xs = sum (map (λ x. answer x .probes) xs)
 abbrev pub allowing : List Call → ℕ
 allowing xs = length (keep (λ x. eqb (cause x) 0 && (ltb 0 (x .budget) && ltb 0 (capacity (x .shape) (x .table)))) xs)
 
--- the last accepted call of a list: it, and none after it
+-- x is the last accepted call of a list: it is accepted, and no call after it is
 pub record Last (xs : List Call) (x : Call) : Type 0 where
   pub before : List Call
   pub behind : List Call
@@ -76,8 +82,52 @@ pub record Last (xs : List Call) (x : Call) : Type 0 where
   pub accepted : cause x ≡ 0
   pub none-after : All (λ y. cause y ≡ 0 → ⊥) behind
 
+-- ---- causes
+-- the cursor names a probe of the walk, field by field
+pub record NamesProbe (s : Shape) (cells : List ℤ) (c : Cursor) : Type 0 where
+  -- it does not say Ended
+  pub going : c .ended ≡ false
+  -- the guard's layer is from 1 to k, and its place is in its layer
+  pub layer : 1 ≤ c .layer
+  pub guard : Has (layers s cells) (record { layer = c .layer - 1; place = c .place })
+  -- five cells, unfilled ones 0
+  pub five : length (c .chosen) ≡ 5
+  pub zeros : (i : ℕ) → c .filled ≤ i → getD (c .chosen) i 0 ≡ 0
+  -- each chosen place is in its layer and passes in its slot after the ones before it, and the place to try is in its layer
+  pub path : let g = guardAt (layers s cells) 0 (record { layer = c .layer - 1; place = c .place }) in Named (g .slots) (g .start) (take (c .filled) (c .chosen) ++ c .next ∷ [])
+
+-- 01: "a trial of the walk" or "Ended in its one form"
+abbrev pub Good : Shape → List ℤ → Cursor → Type 0
+Good s cells c = (c ≡ endedCursor) ⊎ NamesProbe s cells c
+
+-- each cause of the calls applies in exactly the stated case, and where no earlier one does (1 to 4: `Plans` of the crate plan)
+pub record CallCauses (s : Shape) (cells : List ℤ) (order : List ℕ) (c : Cursor) (table : List ℕ) : Type 0 where
+  pub fresh : (freshCause s cells order ≡ 0) ↔ ((planCause s cells ≡ 0) × (order ≡ sweepOrder cells))
+  pub five : (freshCause s cells order ≡ 5) ↔ ((planCause s cells ≡ 0) × (order ≡ sweepOrder cells → ⊥))
+  pub page : (pageCause s cells order c ≡ 0) ↔ ((freshCause s cells order ≡ 0) × Good s cells c)
+  pub six : (pageCause s cells order c ≡ 6) ↔ ((freshCause s cells order ≡ 0) × (Good s cells c → ⊥))
+  pub run : (runCause s cells order table ≡ 0) ↔ ((freshCause s cells order ≡ 0) × (length (tableOf s cells) ≤ capacity s table))
+  pub seven : (runCause s cells order table ≡ 7) ↔ ((freshCause s cells order ≡ 0) × (capacity s table < length (tableOf s cells)))
+
+-- ---- one accepted page call; w is what is left of the walk at its cursor
+pub record PageHolds (x : Call) (w : List (Probe Rect)) : Type 0 where
+  -- it does the first probes that are left, and puts out the rows that they yield
+  pub rows : rowsIn (x .shape .k) (answer x .rows) (after x) ≡ map (placesOf (x .shape)) (rowsOf rowOf (take (answer x .probes) w))
+  -- 01: "Before each trial it asks in this order: walk over, stop with Ended; table full, stop with Full; trials done equal the budget, stop with Spent."
+  pub ended : (answer x .stop ≡ Ended) ↔ (answer x .probes ≡ length w)
+  pub full : (answer x .stop ≡ Full) ↔ ((answer x .probes < length w) × (answer x .rows ≡ capacity (x .shape) (x .table)))
+  pub spent : (answer x .stop ≡ Spent) ↔ ((answer x .probes < length w) × (answer x .rows < capacity (x .shape) (x .table)) × (answer x .probes ≡ x .budget))
+  pub stops : (answer x .stop ≡ Ended) ⊎ ((answer x .stop ≡ Full) ⊎ (answer x .stop ≡ Spent))
+  pub going : (d : ℕ) → d < answer x .probes → (length (rowsOf rowOf (take d w)) < capacity (x .shape) (x .table)) × (d < x .budget)
+  -- the sum of its rows' areas, and the cursor for what is due next
+  pub area : answer x .area ≡ sum (map rowArea (rowsOf rowOf (take (answer x .probes) w)))
+  pub cursor : answer x .cursor ≡ dueCursor (x .shape) (drop (answer x .probes) w)
+  -- 01: "Rows fill it from its first cell; the rest keeps its contents."
+  pub long : length (after x) ≡ length (x .table)
+  pub kept : drop (x .shape .k * answer x .rows) (after x) ≡ drop (x .shape .k * answer x .rows) (x .table)
+
 -- ---- demand 3
-pub record Paging (s : Shape) (cells : List ℤ) (xs : List Call) : Type 0 where
+pub record PagingHolds (s : Shape) (cells : List ℤ) (xs : List Call) : Type 0 where
   -- "the rows handed out are the first rows of that table, in its order:
   pub first : handed xs ≡ take (length (handed xs)) (tableOf s cells)
   -- exactly those that the walk yields in its first trials, as many as the calls reported in all,
@@ -97,17 +147,28 @@ pub record Paging (s : Shape) (cells : List ℤ) (xs : List Call) : Type 0 where
   pub last : (x : Call) → Last xs x → answer x .cursor ≡ dueCursor s (drop (reported xs) (walkOf s cells))
 
 -- "Given a sound plan and order, the whole run succeeds exactly when the table fits, and then hands out all its rows and reports that length."
-pub record WholeRun (s : Shape) (cells : List ℤ) (order table : List ℕ) : Type 0 where
+pub record RunHolds (s : Shape) (cells : List ℤ) (order table : List ℕ) : Type 0 where
   pub succeeds : (runCause s cells order table ≡ 0) ↔ (length (tableOf s cells) ≤ capacity s table)
   pub rows : runCause s cells order table ≡ 0 → rowsIn (s .k) (runCall s cells order table .rows) (runTable s cells order table) ≡ tableOf s cells
   pub counts : runCause s cells order table ≡ 0
       → runCall s cells order table ≡ record { number = 0; rows = length (tableOf s cells); probes = length (walkOf s cells); area = sum (map (areaIn (layers s cells)) (tableOf s cells)) }
+  -- the rest of the table is kept; where the table does not fit, all of it
+  pub long : length (runTable s cells order table) ≡ length table
+  pub kept : runCause s cells order table ≡ 0 → drop (s .k * length (tableOf s cells)) (runTable s cells order table) ≡ drop (s .k * length (tableOf s cells)) table
+  pub fails : capacity s table < length (tableOf s cells) → (runCall s cells order table ≡ refusedRun 7) × (runTable s cells order table ≡ table)
 
 pub record Demand3 : Type 0 where
   -- "A plan has one table and one walk, and the rows of the walk are that table, in its order."
-  pub walk : (s : Shape) (cells : List ℤ) → Sound s cells → map (placesOf s) (rowsOf rowOf (walkOf s cells)) ≡ tableOf s cells
-  -- 01: the walk's length "is below 2^57"
-  pub short : (s : Shape) (cells : List ℤ) → Sound s cells → length (walkOf s cells) < 2 ^ 57
-  -- every list of page calls that begins with the fresh cursor, on any plan: its shape has six sizes, as the type [u32; 6] says
-  pub paging : (s : Shape) (cells : List ℤ) (xs : List Call) → length (s .sizes) ≡ 6 → Chain s cells (freshCall s cells (sweepOrder cells) .cursor) xs → Paging s cells xs
-  pub run : (s : Shape) (cells : List ℤ) (order table : List ℕ) → Sound s cells → order ≡ sweepOrder cells → WholeRun s cells order table
+  pub table : (s : Shape) (cells : List ℤ) → Sound s cells → TableHolds s cells
+  pub walk : (s : Shape) (cells : List ℤ) → Sound s cells → WalkIsTable s cells
+  -- the causes of the calls; a shape has six sizes, as the type [u32; 6] says
+  pub causes : (s : Shape) (cells : List ℤ) (order : List ℕ) (c : Cursor) (table : List ℕ) → length (s .sizes) ≡ 6 → CallCauses s cells order c table
+  -- the cursor of what is left after any number of probes is accepted, and names just that
+  pub taken : (s : Shape) (cells : List ℤ) (n : ℕ) → Sound s cells
+      → (pageCause s cells (sweepOrder cells) (dueCursor s (drop n (walkOf s cells))) ≡ 0) × (resume s cells (dueCursor s (drop n (walkOf s cells))) ≡ some (drop n (walkOf s cells)))
+  -- each accepted call
+  pub page : (x : Call) (w : List (Probe Rect)) → length (x .shape .sizes) ≡ 6 → cause x ≡ 0 → resume (x .shape) (x .cells) (x .cursor) ≡ some w → PageHolds x w
+  -- every list of page calls whose first accepted call brings the fresh cursor, on any plan
+  pub paging : (s : Shape) (cells : List ℤ) (xs : List Call) → length (s .sizes) ≡ 6 → Chain s cells (freshCall s cells (sweepOrder cells) .cursor) xs → PagingHolds s cells xs
+  -- the whole run
+  pub run : (s : Shape) (cells : List ℤ) (order table : List ℕ) → Sound s cells → order ≡ sweepOrder cells → RunHolds s cells order table

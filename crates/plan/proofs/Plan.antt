@@ -1,7 +1,7 @@
 -- Laws of the checks: what each goes by, and that a plan which they let through is sound.
 use mathlib.Core.Path.{_≡_, refl, sym, ap, _∙_, subst}
 use mathlib.Core.List.{List, [], _∷_}
-use mathlib.Core.Logic.{_⊎_, inl, inr}
+use mathlib.Core.Logic.{_⊎_, inl, inr, _↔_}
 use mathlib.Core.Bool.{Bool, true, false, _&&_, _||_}
 use Prim.Native.Nat.{ℕ, zero, suc, _+_, _*_, _≤_, _<_, zero-le}
 use native.Mathlib.Omega.{arith}
@@ -11,7 +11,7 @@ use lib.Dec.{eqb, leb, ltb}
 use lib.ListN.{length, getD, take, drop, drop-of-length-le}
 use lib.Seq.{drop-cons, length-take-le}
 use borrow.Author.Tests.{lt-ltb, le-ltb, le-leb, lt-leb, leb-true, eqb-true, eq-eqb, ne-eqb}
-use Rattle.lists.specs.Lists.{All, none-left, _and_, sum}
+use Rattle.lists.specs.Lists.{All, none-left, _and_, sum, Tells}
 use Rattle.lists.proofs.Lists.{all-take}
 use Rattle.lists.proofs.Tests.{clash, both, and-true, total}
 use Rattle.geometry.specs.Rectangles.{inRange}
@@ -19,6 +19,7 @@ use Rattle.plan.specs.declared.Shape.{Shape}
 use Rattle.plan.specs.Causes.{unless, _orElse_}
 use Rattle.plan.specs.Frames.{Framed}
 use Rattle.plan.specs.Plan.{rectAt, count, sizesOf, sizeFits, sizesFit, allRanged, planCause, Sound}
+use native.Mathlib.Nat.{le-refl}
 
 -- ---- two checks
 -- where neither of two causes applies
@@ -30,6 +31,29 @@ or-else-zero (suc a) b e = absurd (omega arith)
 pub unless-zero : (t : Bool) (c : ℕ) → unless t (suc c) ≡ 0 → t ≡ true
 unless-zero true c e = refl
 unless-zero false c e = absurd (omega arith)
+
+-- the first of two causes is no more than both are
+pub or-else-most : (a b n : ℕ) → a ≤ n → b ≤ n → (a orElse b) ≤ n
+or-else-most zero b n h k = k
+or-else-most (suc a) b n h k = h
+
+-- a check gives its own cause or none
+pub unless-most : (t : Bool) (n : ℕ) → unless t n ≤ n
+unless-most true n = zero-le
+unless-most false n = le-refl n
+
+module _ {P : Type 0} where
+  -- one check more lets through exactly where no earlier cause applies and what it tests holds
+  pub check-passed : (a : ℕ) {t : Bool} (n : ℕ) → (a ≡ 0 → Tells P t) → ((a orElse unless t (suc n)) ≡ 0) ↔ ((a ≡ 0) × P)
+  check-passed zero {t = true} n f = (λ e. (refl, f refl .if-true refl), λ h. refl)
+  check-passed zero {t = false} n f = (λ e. absurd (omega arith), λ h. absurd (f refl .if-false refl (h .1)))
+  check-passed (suc a) n f = (λ e. absurd (omega arith), λ h. absurd (omega (arith, h .0)))
+
+  -- its own cause applies exactly where no earlier one does and what it tests does not hold
+  pub check-failed : (a : ℕ) {t : Bool} (n : ℕ) → a ≤ n → (a ≡ 0 → Tells P t) → ((a orElse unless t (suc n)) ≡ suc n) ↔ ((a ≡ 0) × (P → ⊥))
+  check-failed zero {t = true} n l f = (λ e. absurd (omega arith), λ h. absurd (h .1 (f refl .if-true refl)))
+  check-failed zero {t = false} n l f = (λ e. (refl, f refl .if-false refl), λ h. refl)
+  check-failed (suc a) n l f = (λ e. absurd (omega arith), λ h. absurd (omega (arith, h .0)))
 
 -- ---- a size
 pub size-large : (k j n : ℕ) → 512 < n → false ≡ sizeFits k j n
@@ -208,3 +232,14 @@ framed s cells h =
         ranged = λ k p. c .ranged k (omega (arith, count-is s cells c));
       },
     )
+
+-- a plan is refused by 1 to 4
+pub plan-most : (s : Shape) (cells : List ℤ) → planCause s cells ≤ 4
+unfolding planCause
+plan-most s cells = go (leb 2 (s .k) && leb (s .k) 6) (sizesFit (s .k) 0 (s .sizes)) (eqb (length cells) (4 * sum (s .sizes))) (allRanged (count cells) cells)
+  where
+    go : (a b c d : Bool) → (unless a 1 orElse unless b 2 orElse unless c 3 orElse unless d 4) ≤ 4
+    go false b c d = omega arith
+    go true false c d = omega arith
+    go true true false d = omega arith
+    go true true true d = unless-most d 4

@@ -3,6 +3,7 @@ pub mod Paging
 pub mod Calls
 pub mod Traversal
 pub mod Names
+pub mod Stands
 pub mod Zipper
 pub mod Positions
 pub mod Turns
