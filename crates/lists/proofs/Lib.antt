@@ -5,3 +5,4 @@ pub mod Kept
 pub mod Numbers
 pub mod Sorting
 pub mod Parts
+pub mod Padding

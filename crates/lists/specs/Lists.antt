@@ -57,6 +57,12 @@ without i [] = []
 without zero (a ∷ l) = l
 without (suc i) (a ∷ l) = a ∷ without i l
 
+-- the first m elements, filled up with 0
+abbrev pub padded : ℕ → List ℕ → List ℕ
+padded zero l = []
+padded (suc m) [] = 0 ∷ padded m []
+padded (suc m) (a ∷ l) = a ∷ padded m l
+
 -- the two lists are equal, as a test
 unfoldable pub same : List ℕ → List ℕ → Bool
 same [] [] = true

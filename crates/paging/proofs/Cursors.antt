@@ -1,14 +1,14 @@
 -- Laws of cursors: one says the guard and the path of its probe, and so two probes have the same one only where they have these in common.
-use mathlib.Core.Path.{_≡_, refl, sym, ap, ap₂, _∙_}
+use mathlib.Core.Path.{_≡_, refl, sym, ap, _∙_}
 use mathlib.Core.List.{List, [], _∷_, _++_}
 use mathlib.Core.Bool.{Bool, true, false, not, cond, _&&_}
-use Prim.Native.Nat.{ℕ, zero, suc, _+_, _-_, _≤_, zero-le, suc-le-suc}
+use Prim.Native.Nat.{ℕ, suc, _+_, _-_}
 use native.Mathlib.Omega.{arith}
 use lib.Dec.{eqb}
-use lib.ListN.{length, take, getD}
-use lib.Seq.{take-suc, take-length, length-take-le}
+use lib.ListN.{length, take}
 use borrow.Author.Tests.{eq-eqb, eqb-true}
 use Rattle.lists.specs.Lists.{sum, same}
+use Rattle.lists.proofs.Padding.{path-is}
 use Rattle.lists.proofs.Tests.{both, same-test, clash}
 use Rattle.lists.proofs.Numbers.{same-refl, same-eq}
 use Rattle.geometry.specs.declared.Rect.{Rect}
@@ -17,7 +17,7 @@ use Rattle.plan.specs.Plan.{sizesOf}
 use Rattle.plan.specs.Sweep.{spotOf}
 use Rattle.search.specs.Traversal.{Probe}
 use Rattle.paging.specs.declared.Cursor.{Cursor}
-use Rattle.paging.specs.Cursors.{padded, cursorOf, endedCursor, sameCursor}
+use Rattle.paging.specs.Cursors.{cursorOf, endedCursor, sameCursor}
 use Rattle.plan.proofs.Spots.{number-spot}
 use Rattle.search.proofs.Names.{Deep}
 
@@ -62,41 +62,6 @@ pathIn c = take (c .filled) (c .chosen) ++ c .next ∷ []
 -- the guard's number, by its layer and place
 abbrev pub guardIn : Shape → Cursor → ℕ
 guardIn s c = sum (take (c .layer - 1) (sizesOf s)) + c .place
-
--- what is filled up begins as it was
-take-padded : (m : ℕ) (l : List ℕ) → length l ≤ m → take (length l) (padded m l) ≡ l
-take-padded m [] h = refl
-take-padded zero (a ∷ l) h = absurd (omega arith)
-take-padded (suc m) (a ∷ l) h = ap (λ (k : List ℕ). a ∷ k) (take-padded m l (omega arith))
-
--- it has m places
-pub padded-long : (m : ℕ) (l : List ℕ) → length (padded m l) ≡ m
-padded-long zero l = refl
-padded-long (suc m) [] = ap suc (padded-long m [])
-padded-long (suc m) (a ∷ l) = ap suc (padded-long m l)
-
--- those behind it are 0
-pub padded-zeros : (m : ℕ) (l : List ℕ) (i : ℕ) → length l ≤ i → getD (padded m l) i 0 ≡ 0
-padded-zeros zero l i h = refl
-padded-zeros (suc m) [] zero h = refl
-padded-zeros (suc m) [] (suc i) h = padded-zeros m [] i (omega arith)
-padded-zeros (suc m) (a ∷ l) zero h = absurd (omega arith)
-padded-zeros (suc m) (a ∷ l) (suc i) h = padded-zeros m l i (omega arith)
-
--- m places that are 0 from n on are the first n, filled up
-pub padded-front : (m n : ℕ) (l : List ℕ) → length l ≡ m → ((i : ℕ) → n ≤ i → getD l i 0 ≡ 0) → padded m (take n l) ≡ l
-padded-front zero n [] e f = refl
-padded-front zero n (a ∷ l) e f = absurd (omega arith)
-padded-front (suc m) n [] e f = absurd (omega arith)
-padded-front (suc m) zero (a ∷ l) e f = ap₂ _∷_ (sym (f 0 zero-le)) (padded-front m zero l (omega arith) (λ i h. f (suc i) zero-le))
-padded-front (suc m) (suc n) (a ∷ l) e f = ap (λ (k : List ℕ). a ∷ k) (padded-front m n l (omega arith) (λ i h. f (suc i) (suc-le-suc h)))
-
--- a path is its first places, as they stand filled up, and its last one
-path-is : (m n : ℕ) (l : List ℕ) → length l ≡ suc n → n ≤ m → take n (padded m (take n l)) ++ getD l n 0 ∷ [] ≡ l
-path-is m n l e h =
-    let z = length-take-le n l (omega arith) in
-    let p = take-padded m (take n l) (omega arith) in
-    ap (λ (k : List ℕ). k ++ getD l n 0 ∷ []) (rw z at p) ∙ sym (take-suc l n 0 (omega arith)) ∙ rw (← e) (take-length l)
 
 module _ (s : Shape) where
   -- the cursor of a probe says its guard's number

@@ -9,7 +9,7 @@ use native.Mathlib.Omega.{arith}
 use lib.IntN.{ℤ}
 use lib.ListN.{length, take, getD, length-take, length-append}
 use lib.Seq.{take-at, getD-at, length-take-le}
-use Rattle.lists.specs.Lists.{Tells, without}
+use Rattle.lists.specs.Lists.{Tells, without, padded}
 use Rattle.lists.proofs.Tests.{clash, tells}
 use Rattle.lists.proofs.Lists.{all-at}
 use Rattle.lists.proofs.Kept.{length-without}
@@ -26,11 +26,12 @@ use Rattle.walk.specs.Walk.{guardAt, walkOf}
 use Rattle.walk.proofs.Slots.{slots-long}
 use Rattle.walk.proofs.Theorems.{walk-is-table}
 use Rattle.paging.specs.declared.Cursor.{Cursor}
-use Rattle.paging.specs.Cursors.{padded, cursorOf, sameCursor, findIn, resume}
+use Rattle.paging.specs.Cursors.{cursorOf, sameCursor, findIn, resume}
 use Rattle.paging.specs.Calls.{named}
 use Rattle.paging.specs.Theorems.{NamesProbe, Good}
 use Rattle.search.proofs.Stands.{named-short}
-use Rattle.paging.proofs.Cursors.{pathIn, same-cursor-refl, never-ended, cursor-path, padded-long, padded-zeros, padded-front}
+use Rattle.paging.proofs.Cursors.{pathIn, same-cursor-refl, never-ended, cursor-path}
+use Rattle.lists.proofs.Padding.{padded-long, padded-zeros, padded-front}
 use Rattle.paging.proofs.Resume.{Left, walk-deep, resume-is, resume-ended}
 
 -- the cursor of a probe of the list finds something there
@@ -72,7 +73,7 @@ module _ (s : Shape) (cells : List ℤ) (sound : Sound s cells) where
       let l = length-without i ls (has-layer ls i (c .place) (p .guard)) in
       omega (
         arith,
-        named-short (p .path),
+        named-short (p .path) .1,
         slots-long x i (without i ls),
         layers-long (sizesOf s) cells,
         length-take (s .k) (s .sizes),

@@ -1,0 +1,93 @@
+-- Laws of spelling: how many digits a number has, and its first digit.
+use mathlib.Core.Path.{_≡_, refl, sym, ap, _∙_, subst}
+use mathlib.Core.Bool.{Bool, true, false, cond}
+use mathlib.Core.Logic.{_⊎_, inl, inr}
+use Prim.Native.Nat.{ℕ, zero, suc, _/_, _^_, _≤_, _<_, max}
+use native.Mathlib.Nat.{le-refl, pow-suc, le-div-iff-mul-le, div-lt-iff-lt-mul, mul-comm, one-mul}
+use native.Mathlib.Omega.{arith}
+use lib.Dec.{leb}
+use lib.IntN.{ℤ, pos, negsuc}
+use lib.ListN.{length}
+use borrow.Author.Tests.{leb-true, leb-false}
+use Rattle.lists.proofs.Tests.{total}
+use Rattle.decimal.specs.Numerals.{digits, size, decimal, numeral}
+use Rattle.decimal.proofs.Powers.{powers, positive}
+
+-- n has c + 1 digits; 0 has one
+pub record Sized (c n : ℕ) : Type 0 where
+  pub least : 10 ^ c ≤ max n 1
+  pub below : n < 10 ^ suc c
+
+pub sized : (m n : ℕ) → n < 10 ^ suc m → (c : ℕ) × (c ≤ m) × (size m n ≡ suc c) × Sized c n
+unfolding size
+sized zero n k = (0, le-refl 0, refl, record { least = omega arith; below = k })
+sized (suc m) n k = go (leb (10 ^ suc m) n) refl (sized m n)
+  where
+    go : (t : Bool) → leb (10 ^ suc m) n ≡ t → (n < 10 ^ suc m → (c : ℕ) × (c ≤ m) × (size m n ≡ suc c) × Sized c n)
+        → (c : ℕ) × (c ≤ suc m) × (cond t (suc (suc m)) (size m n) ≡ suc c) × Sized c n
+    go true e f = (suc m, le-refl (suc m), refl, record { least = omega (arith, leb-true (10 ^ suc m) n e); below = k })
+    go false e f =
+        let s = f (leb-false (10 ^ suc m) n e) in
+        (s .0, omega (arith, s .1), s .2, s .3)
+
+pub size-is : (m c n : ℕ) → c ≤ m → Sized c n → size m n ≡ suc c
+unfolding size
+size-is zero c n h s = ap suc (omega arith)
+size-is (suc m) c n h s = go (leb (10 ^ suc m) n) refl (λ l. size-is m c n l s)
+  where
+    go : (t : Bool) → leb (10 ^ suc m) n ≡ t → (c ≤ m → size m n ≡ suc c) → cond t (suc (suc m)) (size m n) ≡ suc c
+    go true e f = top (total c m)
+      where
+        top : (c ≤ m) ⊎ (m < c) → suc (suc m) ≡ suc c
+        top (inl l) = absurd (omega (arith, powers (suc c) (suc m) (omega arith), s .below, leb-true (10 ^ suc m) n e))
+        top (inr l) = omega arith
+    go false e f = low (total c m)
+      where
+        low : (c ≤ m) ⊎ (m < c) → size m n ≡ suc c
+        low (inl l) = f l
+        low (inr l) = absurd (omega (arith, powers (suc m) c l, powers 1 (suc m) (omega arith), s .least, leb-false (10 ^ suc m) n e))
+
+-- as many digits as are asked for, and never more than there are powers
+pub length-digits : (c n : ℕ) → length (digits c n) ≡ c
+length-digits zero n = refl
+length-digits (suc c) n = ap suc (length-digits c n)
+
+pub size-most : (m n : ℕ) → size m n ≤ suc m
+unfolding size
+size-most zero n = le-refl 1
+size-most (suc m) n = go (leb (10 ^ suc m) n) (size-most m n)
+  where
+    go : (t : Bool) → size m n ≤ suc m → cond t (suc (suc m)) (size m n) ≤ suc (suc m)
+    go true h = le-refl (suc (suc m))
+    go false h = omega arith
+
+pub length-decimal : (n : ℕ) → length (decimal n) ≡ size 19 n
+unfolding decimal
+length-decimal n = length-digits (size 19 n) n
+
+-- the front digit of a number
+pub front-low : (c n : ℕ) → 0 < n → Sized c n → 1 ≤ n / 10 ^ c
+front-low c n h s = le-div-iff-mul-le (positive c) .1 (rw one-mul (omega (arith, s .least)))
+
+pub front-high : (c n : ℕ) → Sized c n → n / 10 ^ c < 10
+front-high c n s =
+    div-lt-iff-lt-mul (positive c) .1 (subst (λ (m : ℕ). n < m) (pow-suc 10 c ∙ mul-comm (10 ^ c) 10) (s .below))
+
+-- a number whose front is one digit has the digits that the front stands before
+pub front-sized : (c n : ℕ) → 1 ≤ n / 10 ^ c → n / 10 ^ c < 10 → Sized c n
+front-sized c n h k =
+    record {
+      least = omega (arith, rw one-mul at (le-div-iff-mul-le {x = 1} (positive c) .0 h));
+      below = subst (λ (m : ℕ). n < m) (sym (pow-suc 10 c ∙ mul-comm (10 ^ c) 10)) (div-lt-iff-lt-mul (positive c) .0 k);
+    }
+
+-- the digits of a number that has c + 1 of them
+pub digits-decimal : (c n : ℕ) → c ≤ 19 → Sized c n → digits (suc c) n ≡ decimal n
+unfolding decimal
+digits-decimal c n h s = ap (λ (m : ℕ). digits m n) (sym (size-is 19 c n h s))
+
+-- a numeral has at most twenty digits and a minus
+pub numeral-few : (z : ℤ) → length (numeral z) ≤ 21
+unfolding numeral
+numeral-few (pos n) = omega (arith, length-decimal n, size-most 19 n)
+numeral-few (negsuc n) = omega (arith, length-decimal (suc n), size-most 19 (suc n))

@@ -1,0 +1,182 @@
+-- A number of at most seven digits is read from its spelling, and whatever is read was spelled so.
+use mathlib.Core.Path.{_≡_, refl, sym, ap, ap₂, _∙_, subst}
+use mathlib.Core.List.{List, [], _∷_, _++_}
+use mathlib.Core.Option.{Option, none, some, Option·some-injective, Option·none-ne-some}
+use mathlib.Core.Bool.{Bool, true, false, cond}
+use mathlib.Core.Logic.{_⊎_, inl, inr}
+use Prim.Native.Nat.{ℕ, zero, suc, _+_, _-_, _*_, _/_, _%_, _^_, _≤_, _<_, zero-le}
+use native.Mathlib.Nat.{le-refl, pow-zero, div-one, div-le-self}
+use native.Mathlib.Omega.{arith}
+use lib.Dec.{lit≤}
+use lib.IntN.{ℤ, pos, negsuc, negℤ}
+use borrow.Author.Tests.{ltb-true, lt-ltb}
+use Rattle.lists.proofs.Tests.{total}
+use Rattle.decimal.specs.declared.Kind.{Kind}
+use Rattle.decimal.specs.declared.Kind.the-variants.{Minus, Zero, Digit, Tab, End, Other}
+use Rattle.decimal.specs.Numerals.{digits, size, decimal, numeral, short}
+use Rattle.decimal.specs.Bytes.{kindOf, isDigit}
+use Rattle.decimal.specs.Reading.{Reading, more, afterMinus, magnitude, numberAt, number}
+use Rattle.decimal.specs.Places.{digitNext}
+use Rattle.decimal.proofs.Powers.{tenfold, powers}
+use Rattle.decimal.proofs.Bytes.{Is, kind-is, kind-digit, digit-yes, digit-is}
+use Rattle.decimal.proofs.Numerals.{Sized, sized, front-low, front-high, front-sized, digits-decimal}
+
+-- no digit comes next
+abbrev pub Stops : List ℕ → Type 0
+Stops t = digitNext t ≡ false
+
+pub stop : (f v : ℕ) (r : List ℕ) → Stops r → more f v r ≡ (v, r)
+stop zero v r h = refl
+stop (suc f) v [] h = refl
+stop (suc f) v (b ∷ r) h = rw h
+
+pub more-digits : (f c n : ℕ) (r : List ℕ) → c ≤ f → Stops r → more f (n / 10 ^ c) (digits c n ++ r) ≡ (n, r)
+more-digits f zero n r h k = rw (pow-zero, div-one) (stop f n r k)
+more-digits zero (suc c) n r h k = absurd (omega arith)
+more-digits (suc f) (suc c) n r h k =
+    let x : ℕ = n / 10 ^ c in
+    let e : n / 10 ^ suc c * 10 + (48 + x % 10 - 48) ≡ x = omega (arith, tenfold n c) in
+    rw (digit-yes (48 + x % 10) (omega arith) (omega arith), e) (more-digits f c n r (omega arith) k)
+
+-- whatever digits are read are the last ones of what they give
+pub record Spelled (v n : ℕ) (t r : List ℕ) (f : ℕ) : Type 0 where
+  pub count : ℕ
+  pub few : count ≤ f
+  pub text : t ≡ digits count n ++ r
+  pub front : n / 10 ^ count ≡ v
+
+pub more-spelled : (f v : ℕ) (t : List ℕ) → Spelled v (more f v t .0) t (more f v t .1) f
+more-spelled zero v t = record { count = 0; few = le-refl 0; text = refl; front = div-one v }
+more-spelled (suc f) v [] = record { count = 0; few = zero-le; text = refl; front = div-one v }
+more-spelled (suc f) v (b ∷ t) = go (isDigit (kindOf b)) refl (more-spelled f (v * 10 + (b - 48)) t)
+  where
+    go : (d : Bool) → isDigit (kindOf b) ≡ d → Spelled (v * 10 + (b - 48)) (more f (v * 10 + (b - 48)) t .0) t (more f (v * 10 + (b - 48)) t .1) f
+        → Spelled v (cond d (more f (v * 10 + (b - 48)) t) (v, b ∷ t) .0) (b ∷ t) (cond d (more f (v * 10 + (b - 48)) t) (v, b ∷ t) .1) (suc f)
+    go false e s = record { count = 0; few = zero-le; text = refl; front = div-one v }
+    go true e s =
+        let h = digit-is (kindOf b) b e (kind-is b) in
+        let n : ℕ = more f (v * 10 + (b - 48)) t .0 in
+        let x : b ≡ 48 + n / 10 ^ s .count % 10 = omega (arith, s .front) in
+        let y : n / 10 ^ s .count / 10 ≡ v = omega (arith, s .front) in
+        record { count = suc (s .count); few = omega (arith, s .few); text = ap₂ _∷_ x (s .text); front = tenfold n (s .count) ∙ y }
+
+-- ---- a number from 1 on, and read
+
+seven : (c n : ℕ) → Sized c n → n < 10000000 → c ≤ 6
+seven c n s h = go (total c 6)
+  where
+    go : (c ≤ 6) ⊎ (6 < c) → c ≤ 6
+    go (inl l) = l
+    go (inr l) = absurd (omega (arith, powers 7 c l, s .least, h))
+
+-- the decimal's first byte is a digit 1 to 9, and from there on the number is read
+pub record Front (n : ℕ) (r : List ℕ) : Type 0 where
+  pub first : ℕ
+  pub others : List ℕ
+  pub text : decimal n ++ r ≡ first ∷ others
+  pub low : 49 ≤ first
+  pub high : first ≤ 57
+  pub reads : more 6 (first - 48) others ≡ (n, r)
+
+pub front : (n : ℕ) (r : List ℕ) → 0 < n → n < 10000000 → Stops r → Front n r
+front n r h k st =
+    let s = sized 19 n (omega (arith, powers 7 20 (lit≤ tt))) in
+    let c : ℕ = s .0 in
+    let lo = front-low c n h (s .3) in
+    let hi = front-high c n (s .3) in
+    let x : 48 + n / 10 ^ c % 10 - 48 ≡ n / 10 ^ c = omega arith in
+    record {
+      first = 48 + n / 10 ^ c % 10;
+      others = digits c n ++ r;
+      text = ap (λ (l : List ℕ). l ++ r) (sym (digits-decimal c n (s .1) (s .3)));
+      low = omega arith;
+      high = omega arith;
+      reads = rw x (more-digits 6 c n r (seven c n (s .3) k) st);
+    }
+
+pub record Fronted (b : ℕ) (t : List ℕ) (n : ℕ) (r : List ℕ) : Type 0 where
+  pub text : b ∷ t ≡ decimal n ++ r
+  pub least : 0 < n
+  pub below : n < 10000000
+
+pub fronted : (b : ℕ) (t : List ℕ) → 49 ≤ b → b ≤ 57 → Fronted b t (more 6 (b - 48) t .0) (more 6 (b - 48) t .1)
+fronted b t h k =
+    let m : Spelled (b - 48) (more 6 (b - 48) t .0) t (more 6 (b - 48) t .1) 6 = more-spelled 6 (b - 48) t in
+    let n : ℕ = more 6 (b - 48) t .0 in
+    let r : List ℕ = more 6 (b - 48) t .1 in
+    let c : ℕ = m .count in
+    let s : Sized c n = front-sized c n (omega (arith, m .front)) (omega (arith, m .front)) in
+    let x : b ≡ 48 + n / 10 ^ c % 10 = omega (arith, m .front) in
+    record {
+      text = ap₂ _∷_ x (m .text) ∙ ap (λ (l : List ℕ). l ++ r) (digits-decimal c n (omega (arith, m .few)) s);
+      least = omega (arith, m .front, div-le-self (more 6 (b - 48) t .0) (10 ^ c));
+      below = omega (arith, s .below, powers (suc c) 7 (omega (arith, m .few)));
+    }
+
+-- ---- numbers
+
+pub number-reads : (z : ℤ) (r : List ℕ) → short z ≡ true → Stops r → number (numeral z ++ r) ≡ some (z, r)
+unfolding number numeral
+number-reads (pos zero) r h st = unfold decimal size kindOf in refl
+number-reads (pos (suc n)) r h st =
+    let f = front (suc n) r (omega arith) (ltb-true (suc n) 10000000 h) st in
+    rw (f .text, kind-digit (f .first) (f .low) (f .high), f .reads)
+number-reads (negsuc n) r h st =
+    let f = front (suc n) r (omega arith) (ltb-true (suc n) 10000000 h) st in
+    unfold kindOf in rw (f .text, kind-digit (f .first) (f .low) (f .high), f .reads)
+
+pub record Numbered (t : List ℕ) (z : ℤ) (r : List ℕ) : Type 0 where
+  pub text : t ≡ numeral z ++ r
+  pub few : short z ≡ true
+
+never : {A B : Type 0} {a : A} → _≡_ {A = Option A} none (some a) → B
+never {a = a} e = absurd (Option·none-ne-some a e)
+
+-- what holds of the pair that is read holds of the one it equals
+same-pair : (P : ℤ → List ℕ → Type 0) (y z : ℤ) (s r : List ℕ) → _≡_ {A = Reading ℤ} (some (y, s)) (some (z, r)) → P y s → P z r
+same-pair P y z s r e h =
+    let p = Option·some-injective (y, s) (z, r) e in
+    subst (λ (q : ℤ × List ℕ). P (q .0) (q .1)) p h
+
+negative-numeral : (n : ℕ) → 0 < n → numeral (negℤ (pos n)) ≡ 45 ∷ decimal n
+unfolding numeral
+negative-numeral zero h = absurd (omega arith)
+negative-numeral (suc n) h = refl
+
+negative-short : (n : ℕ) → n < 10000000 → short (negℤ (pos n)) ≡ true
+negative-short zero h = refl
+negative-short (suc n) h = lt-ltb (suc n) 10000000 h
+
+after-minus : (k : Kind) (b : ℕ) (t : List ℕ) (z : ℤ) (r : List ℕ) → Is k b → afterMinus k b t ≡ some (z, r) → Numbered (45 ∷ b ∷ t) z r
+after-minus Minus b t z r h e = never e
+after-minus Zero b t z r h e = never e
+after-minus Digit b t z r h e =
+    let f : Fronted b t (more 6 (b - 48) t .0) (more 6 (b - 48) t .1) = fronted b t (h .0) (h .1) in
+    let n : ℕ = more 6 (b - 48) t .0 in
+    same-pair (Numbered (45 ∷ b ∷ t)) (negℤ (pos n)) z (more 6 (b - 48) t .1) r e
+    (record { text = rw (negative-numeral n (f .least)) (ap (λ (l : List ℕ). 45 ∷ l) (f .text)); few = negative-short n (f .below) })
+after-minus Tab b t z r h e = never e
+after-minus End b t z r h e = never e
+after-minus Other b t z r h e = never e
+
+behind-minus : (t : List ℕ) (z : ℤ) (r : List ℕ) → magnitude t ≡ some (z, r) → Numbered (45 ∷ t) z r
+behind-minus [] z r e = never e
+behind-minus (b ∷ t) z r e = after-minus (kindOf b) b t z r (kind-is b) e
+
+number-at : (k : Kind) (b : ℕ) (t : List ℕ) (z : ℤ) (r : List ℕ) → Is k b → numberAt k b t ≡ some (z, r) → Numbered (b ∷ t) z r
+unfolding numeral
+number-at Minus b t z r h e = rw h (behind-minus t z r e)
+number-at Zero b t z r h e =
+    same-pair (Numbered (b ∷ t)) (pos 0) z t r e (record { text = rw h (unfold decimal size in refl); few = refl })
+number-at Digit b t z r h e =
+    let f : Fronted b t (more 6 (b - 48) t .0) (more 6 (b - 48) t .1) = fronted b t (h .0) (h .1) in
+    same-pair (Numbered (b ∷ t)) (pos (more 6 (b - 48) t .0)) z (more 6 (b - 48) t .1) r e
+    (record { text = f .text; few = lt-ltb (more 6 (b - 48) t .0) 10000000 (f .below) })
+number-at Tab b t z r h e = never e
+number-at End b t z r h e = never e
+number-at Other b t z r h e = never e
+
+pub number-spelled : (t : List ℕ) (z : ℤ) (r : List ℕ) → number t ≡ some (z, r) → Numbered t z r
+unfolding number
+number-spelled [] z r e = never e
+number-spelled (b ∷ t) z r e = number-at (kindOf b) b t z r (kind-is b) e

@@ -1,0 +1,66 @@
+-- Laws of bytes that are put one run behind the other.
+use mathlib.Core.Path.{_≡_, refl, ap, _∙_}
+use mathlib.Core.List.{List, [], _∷_, _++_}
+use Prim.Native.Nat.{ℕ, suc, _+_, _≤_}
+use native.Mathlib.Nat.{zero-add}
+use native.Mathlib.Numerals.{add-one}
+use native.Mathlib.Omega.{arith}
+use lib.ListN.{length, set, drop, length-set, length-append}
+use lib.Seq.{sets, length-sets, sets-eq}
+use Rattle.decimal.specs.Stores.{Put}
+
+module _ {A : Type 0} where
+  sets-append : (xs ys b : List A) (i : ℕ) → sets (sets b i xs) (i + length xs) ys ≡ sets b i (xs ++ ys)
+  sets-append [] ys b i = let e : i + 0 ≡ i = omega arith in ap (λ (j : ℕ). sets b j ys) e
+  sets-append (x ∷ xs) ys b i =
+      let e : i + suc (length xs) ≡ suc i + length xs = omega arith in
+      ap (λ (j : ℕ). sets (sets (set b i x) (suc i) xs) j ys) e ∙ sets-append xs ys (set b i x) (suc i)
+
+  pub put-length : (buf last cells : List A) (at r : ℕ) → Put buf at cells last r → length last ≡ length buf
+  put-length buf last cells at r p = ap length (p .stored) ∙ length-sets buf at cells
+
+  -- a cell, and then the others from the next place on
+  pub put-first : (buf last cells : List A) (at r : ℕ) (b : A) → Put (set buf at b) (at + 1) cells last r → Put buf at (b ∷ cells) last r
+  put-first buf last cells at r b p = record { place = omega (arith, p .place); stored = rw add-one at (p .stored) }
+
+  -- `rest` is left to be put from `at` on, and then `whole` has been put into `first` from `start` on
+  pub record Left (first : List A) (start : ℕ) (whole buf : List A) (at : ℕ) (rest : List A) : Type 0 where
+    pub long : length buf ≡ length first
+    pub place : at + length rest ≡ start + length whole
+    pub gives : sets buf at rest ≡ sets first start whole
+
+  pub left-all : (buf : List A) (at : ℕ) (whole : List A) → Left buf at whole buf at whole
+  left-all buf at whole = record { long = refl; place = refl; gives = refl }
+
+  module _ (first : List A) (start : ℕ) (whole buf : List A) (at : ℕ) where
+    pub left-byte : (b : A) (rest : List A) → Left first start whole buf at (b ∷ rest) → Left first start whole (set buf at b) (at + 1) rest
+    left-byte b rest l = record { long = length-set buf at b ∙ l .long; place = omega (arith, l .place); gives = rw add-one (l .gives) }
+
+    pub left-put : (cells rest last : List A) (r : ℕ) → Put buf at cells last r → Left first start whole buf at (cells ++ rest) → Left first start whole last r rest
+    left-put cells rest last r p l =
+        record {
+          long = put-length buf last cells at r p ∙ l .long;
+          place = omega (arith, p .place, l .place, length-append cells rest);
+          gives =
+              ap (λ (j : ℕ). sets last j rest) (p .place)
+              ∙ (ap (λ (b : List A). sets b (at + length cells) rest) (p .stored) ∙ (sets-append cells rest buf at ∙ l .gives));
+        }
+
+    pub left-none : Left first start whole buf at [] → Put first start whole buf at
+    left-none l = record { place = omega (arith, l .place); stored = l .gives }
+
+    -- where the whole has room, so has each part that is left
+    pub left-room : (cells rest : List A) → start + length whole ≤ length first → Left first start whole buf at (cells ++ rest) → at + length cells ≤ length buf
+    left-room cells rest h l = omega (arith, l .place, l .long, length-append cells rest)
+
+    -- all that is left is put
+    pub left-last : (cells last : List A) (r : ℕ) → Put buf at cells last r → Left first start whole buf at cells → Put first start whole last r
+    left-last cells last r p l = record { place = omega (arith, p .place, l .place); stored = p .stored ∙ l .gives }
+
+    pub left-fits : (cells : List A) → start + length whole ≤ length first → Left first start whole buf at cells → at + length cells ≤ length buf
+    left-fits cells h l = omega (arith, l .place, l .long)
+
+  -- what is put at the start stands before the rest of the buffer
+  pub put-start : (buf last cells : List A) (r : ℕ) → length cells ≤ length buf → Put buf 0 cells last r → last ≡ cells ++ drop (length cells) buf
+  put-start buf last cells r h p =
+      p .stored ∙ (sets-eq cells buf 0 (omega arith) ∙ ap (λ (k : ℕ). cells ++ drop k buf) (zero-add (length cells)))

@@ -1,0 +1,91 @@
+-- `more_digits` reads up to six digits more. The loop's invariant: what may still be read gives what all gives from the start.
+use mathlib.Core.Path.{refl, sym, _∙_}
+use native.Mathlib.Omega.{arith}
+use denote.Ref.{now}
+use borrow.Author.Needs.{needs}
+use borrow.Author.Tests.{not-true, not-false}
+use Rattle.decimal.proofs.Places.{Next, next-digit, Going, one-more, value-small, ended, all-read}
+use Rattle.decimal.proofs.more_digits.Statement.{statement}
+use Rattle.decimal.proofs.more_digits.Tie as tie
+
+abbrev Inv-loop : tie.InvT-loop
+Inv-loop s at first value₀ i₀ f₀ value i f = Going s at first value i f
+
+abbrev μ-loop : tie.MeasureT-loop
+μ-loop s at first value₀ i₀ f₀ value i f = f
+
+digit : (c : tie.After-shared-slice-known2 Inv-loop μ-loop) → Next (now (c .before .before .before .before .before .before .args .s)) (c .before .before .before .before .loop .i)
+digit c = next-digit _ _ (sym (c .before .before .digit-next .ensures) ∙ not-false _ (c .before .if1 .left))
+
+loop-holds : tie.Need-loop-holds Inv-loop μ-loop
+loop-holds c = record {
+  few = omega arith;
+  inside = omega arith;
+  small = omega arith;
+  same = refl;
+}
+
+digit-next-requires : tie.Need-digit-next-requires Inv-loop μ-loop
+digit-next-requires c κs = search needs
+
+returns : tie.Need-returns Inv-loop μ-loop
+returns c =
+    let a = c .before .before .before .before .before .args in
+    let l = c .before .before .before .loop in
+    ended (now (a .s)) (a .at) (a .first) (l .value) (l .i) (l .f) (sym (c .before .digit-next .ensures) ∙ not-true _ (c .if1 .taken)) (l .inv)
+
+mul-value : tie.Need-mul-value Inv-loop μ-loop
+mul-value c = omega (arith, value-small (c .before .before .before .loop .value) (c .before .before .before .loop .f) (c .before .before .before .loop .inv .small))
+
+shared-slice-read-value : tie.Need-shared-slice-read-value Inv-loop μ-loop
+shared-slice-read-value c = omega (arith, digit c)
+
+sub-value : tie.Need-sub-value Inv-loop μ-loop
+sub-value c = omega (arith, digit c)
+
+cast-value : tie.Need-cast-value Inv-loop μ-loop
+cast-value c = omega (arith, digit c)
+
+add-value : tie.Need-add-value Inv-loop μ-loop
+add-value c = omega (arith, digit c, value-small (c .before .before .before .before .loop .value) (c .before .before .before .before .loop .f) (c .before .before .before .before .loop .inv .small))
+
+add-i : tie.Need-add-i Inv-loop μ-loop
+add-i c = omega (arith, digit c)
+
+sub-f : tie.Need-sub-f Inv-loop μ-loop
+sub-f c = omega arith
+
+loop-less : tie.Need-loop-less Inv-loop μ-loop
+loop-less c = omega arith
+
+loop-again : tie.Need-loop-again Inv-loop μ-loop
+loop-again c =
+    let a = c .before .before .before .before .before .before .args in
+    let l = c .before .before .before .before .loop in
+    one-more (now (a .s)) (a .at) (a .first) (l .value) (l .i) (l .f) (omega arith) (digit c) (l .inv)
+
+returns-2 : tie.Need-returns-2 Inv-loop μ-loop
+returns-2 c =
+    let a = c .before .before .before .args in
+    let l = c .before .loop in
+    all-read (now (a .s)) (a .at) (a .first) (l .value) (l .i) (l .f) (omega arith) (l .inv)
+
+pub more-digits-spec : {M : Type 1} → statement M
+more-digits-spec =
+    tie.close
+    (tie.spec
+    Inv-loop
+    μ-loop
+    loop-holds
+    digit-next-requires
+    returns
+    mul-value
+    shared-slice-read-value
+    sub-value
+    cast-value
+    add-value
+    add-i
+    sub-f
+    loop-less
+    loop-again
+    returns-2)

@@ -1,0 +1,5 @@
+pub mod Numerals
+pub mod Bytes
+pub mod Reading
+pub mod Places
+pub mod Stores

@@ -1,0 +1,29 @@
+-- Numbers spelled in base ten (01, "The plan text").
+use mathlib.Core.List.{List, [], _∷_}
+use mathlib.Core.Bool.{Bool, cond}
+use Prim.Native.Nat.{ℕ, zero, suc, _+_, _/_, _%_, _^_}
+use lib.Dec.{leb, ltb}
+use lib.IntN.{ℤ, pos, negsuc, natAbs}
+
+-- the last c digits of n as bytes, the highest first
+abbrev pub digits : ℕ → ℕ → List ℕ
+digits zero n = []
+digits (suc c) n = (48 + n / 10 ^ c % 10) ∷ digits c n
+
+-- how many digits n has, if it has at most c + 1; 0 has one
+unfoldable pub size : ℕ → ℕ → ℕ
+size zero n = 1
+size (suc c) n = cond (leb (10 ^ suc c) n) (suc (suc c)) (size c n)
+
+-- a natural number below 10^20 without leading zeros, which is any of 64 bits
+unfoldable pub decimal : ℕ → List ℕ
+decimal n = digits (size 19 n) n
+
+-- a whole number: a minus where it is below 0, and its magnitude
+unfoldable pub numeral : ℤ → List ℕ
+numeral (pos n) = decimal n
+numeral (negsuc n) = 45 ∷ decimal (suc n)
+
+-- at most seven digits. 01: "a digit 1 to 9 and up to six digits more"
+abbrev pub short : ℤ → Bool
+short z = ltb (natAbs z) 10000000

@@ -1,0 +1,37 @@
+-- Numbers read from a place of a text, as the code does: no more than private contracts use.
+use mathlib.Core.Path.{_≡_}
+use mathlib.Core.List.{List, [], _∷_}
+use mathlib.Core.Option.{none, some}
+use mathlib.Core.Bool.{Bool, false}
+use Prim.Native.Nat.{ℕ, _-_, _≤_, _<_}
+use lib.IntN.{ℤ}
+use lib.ListN.{length, drop}
+use Rattle.decimal.specs.declared.Number.{Number}
+use Rattle.decimal.specs.declared.Number.the-variants.{Value, Bad}
+use Rattle.decimal.specs.declared.Digits.{Digits}
+use Rattle.decimal.specs.Bytes.{kindOf, isDigit}
+use Rattle.decimal.specs.Reading.{Reading, more, magnitude, number}
+
+-- a digit comes next
+abbrev pub digitNext : List ℕ → Bool
+digitNext [] = false
+digitNext (b ∷ t) = isDigit (kindOf b)
+
+-- the number and the place behind it, in a text of n bytes
+abbrev pub placed : ℕ → Reading ℤ → Number
+placed n none = Bad
+placed n (some p) = Value (p .0) (n - length (p .1))
+
+-- the number at a place
+unfoldable pub numberFrom : List ℕ → ℕ → Number
+numberFrom s at = placed (length s) (number (drop at s))
+
+-- the number below 0 whose minus stands before a place
+unfoldable pub magnitudeFrom : List ℕ → ℕ → Number
+magnitudeFrom s at = placed (length s) (magnitude (drop at s))
+
+-- `value` and `next` are what up to six digits more give behind `first`, from `at` on
+pub record MoreFrom (s : List ℕ) (at first : ℕ) (r : Digits) : Type 0 where
+  pub reads : more 6 first (drop at s) ≡ (r .value, drop (r .next) s)
+  pub inside : r .next ≤ length s
+  pub small : r .value < 10000000

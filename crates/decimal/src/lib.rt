@@ -1,0 +1,224 @@
+// Whole numbers in base ten: read at a place of a text and put at a place of a buffer. A number that is
+// read has at most seven digits; any unsigned number of 64 bits is put. Every power of ten is read from
+// one table, through one function.
+mod table;
+
+ghost use mathlib.Core.Path.{_≡_};
+ghost use mathlib.Core.Bool.{true};
+ghost use Prim.Native.Nat.{_+_, _/_, _%_, _^_, _<_, _≤_};
+ghost use lib.ListN.{length, drop};
+ghost use lib.IntN.{pos, negℤ, natAbs};
+ghost use Rattle.decimal.specs.Numerals.{size, decimal, numeral, short};
+ghost use Rattle.decimal.specs.Bytes.{kindOf, isDigit};
+ghost use Rattle.decimal.specs.Places.{digitNext, MoreFrom, magnitudeFrom, numberFrom};
+ghost use Rattle.decimal.specs.Stores.{Put};
+
+// What a byte of a number is, by its range.
+pub enum Kind {
+    Minus,
+    Zero,
+    Digit,
+    Tab,
+    End,
+    Other,
+}
+
+// What reading a number gives: the number and the place behind it.
+pub enum Number {
+    Value(i32, usize),
+    Bad,
+}
+
+// The value of a run of digits, and the place behind it.
+pub struct Digits {
+    pub value: u32,
+    pub next: usize,
+}
+
+// How many digits n has.
+pub fn size_of(n: u64) -> usize
+    ensures { λ r. ⌜ r ≡ size 19 n ⌝ }
+{
+    let mut c: usize = 0;
+    while c < 19 {
+        if table::quotient(n, c + 1) == 0 {
+            return c + 1;
+        }
+        c += 1;
+    }
+    20
+}
+
+// The digit of n at 10^c, as a byte.
+fn digit_at(n: u64, c: usize) -> u8
+    requires { ⌜ c < 20 ⌝ }
+    ensures { λ r. ⌜ r ≡ 48 + n / 10 ^ c % 10 ⌝ }
+{
+    48 + (table::quotient(n, c) % 10) as u8
+}
+
+// The digits of n from a place of the buffer on; the place behind them.
+pub fn put_decimal(buf: &mut [u8], at: usize, n: u64) -> usize
+    requires { ⌜ at + length (decimal n) ≤ length (now buf) ⌝ }
+    ensures { λ r. ⌜ Put (now (buf .entry)) at (decimal n) (now (buf .exit)) r ⌝ }
+{
+    let mut c = size_of(n);
+    let mut i = at;
+    while 0 < c {
+        c -= 1;
+        buf[i] = digit_at(n, c);
+        i += 1;
+    }
+    i
+}
+
+// A number of at most seven digits without its sign.
+fn magnitude_of(z: i32) -> u64
+    requires { ⌜ short z ≡ true ⌝ }
+    ensures { λ r. ⌜ r ≡ natAbs z ⌝ }
+{
+    if z < 0 {
+        return (0 - z) as u64;
+    }
+    z as u64
+}
+
+// How many bytes a number of at most seven digits takes.
+pub fn numeral_size(z: i32) -> usize
+    requires { ⌜ short z ≡ true ⌝ }
+    ensures { λ r. ⌜ r ≡ length (numeral z) ⌝ }
+{
+    let n = size_of(magnitude_of(z));
+    if z < 0 {
+        return 1 + n;
+    }
+    n
+}
+
+// A number of at most seven digits from a place of the buffer on; the place behind it.
+pub fn put_number(buf: &mut [u8], at: usize, z: i32) -> usize
+    requires { ⌜ (short z ≡ true) × (at + length (numeral z) ≤ length (now buf)) ⌝ }
+    ensures { λ r. ⌜ Put (now (buf .entry)) at (numeral z) (now (buf .exit)) r ⌝ }
+{
+    let n = magnitude_of(z);
+    if z < 0 {
+        buf[at] = b'-';
+        return put_decimal(buf, at + 1, n);
+    }
+    put_decimal(buf, at, n)
+}
+
+// The kind of a byte.
+fn kind_of(b: u8) -> Kind
+    ensures { λ r. ⌜ r ≡ kindOf b ⌝ }
+{
+    match b {
+        b'-' => Kind::Minus,
+        b'0' => Kind::Zero,
+        b'1'..=b'9' => Kind::Digit,
+        b'\t' => Kind::Tab,
+        b'\n' => Kind::End,
+        _ => Kind::Other,
+    }
+}
+
+// Whether a byte is a digit.
+fn is_digit(b: u8) -> bool
+    ensures { λ r. ⌜ r ≡ isDigit (kindOf b) ⌝ }
+{
+    match kind_of(b) {
+        Kind::Minus => false,
+        Kind::Zero => true,
+        Kind::Digit => true,
+        Kind::Tab => false,
+        Kind::End => false,
+        Kind::Other => false,
+    }
+}
+
+// Whether a digit stands at a place.
+fn digit_next(s: &[u8], i: usize) -> bool
+    ensures { λ r. ⌜ r ≡ digitNext (drop i (now (s .entry))) ⌝ }
+{
+    if i < s.len() {
+        return is_digit(s[i]);
+    }
+    false
+}
+
+// Up to six digits more, behind a first one.
+fn more_digits(s: &[u8], at: usize, first: u32) -> Digits
+    requires { ⌜ (first ≤ 9) × (at ≤ length (now s)) ⌝ }
+    ensures { λ r. ⌜ MoreFrom (now (s .entry)) at first r ⌝ }
+{
+    let mut value = first;
+    let mut i = at;
+    let mut f: usize = 6;
+    while 0 < f {
+        if !digit_next(s, i) {
+            return Digits { value, next: i };
+        }
+        value = value * 10 + (s[i] - 48) as u32;
+        i += 1;
+        f -= 1;
+    }
+    Digits { value, next: i }
+}
+
+// A magnitude as a number above 0.
+fn plus(n: u32) -> i32
+    requires { ⌜ n < 10000000 ⌝ }
+    ensures { λ r. ⌜ r ≡ pos n ⌝ }
+{
+    n as i32
+}
+
+// A magnitude as a number below 0.
+fn minus(n: u32) -> i32
+    requires { ⌜ n < 10000000 ⌝ }
+    ensures { λ r. ⌜ r ≡ negℤ (pos n) ⌝ }
+{
+    0 - (n as i32)
+}
+
+// The number whose minus stands before a place.
+fn read_magnitude(s: &[u8], at: usize) -> Number
+    ensures { λ r. ⌜ r ≡ magnitudeFrom (now (s .entry)) at ⌝ }
+{
+    if s.len() <= at {
+        return Number::Bad;
+    }
+    let b = s[at];
+    match kind_of(b) {
+        Kind::Minus => Number::Bad,
+        Kind::Zero => Number::Bad,
+        Kind::Digit => {
+            let d = more_digits(s, at + 1, (b - 48) as u32);
+            Number::Value(minus(d.value), d.next)
+        }
+        Kind::Tab => Number::Bad,
+        Kind::End => Number::Bad,
+        Kind::Other => Number::Bad,
+    }
+}
+
+// The number at a place.
+pub fn read_number(s: &[u8], at: usize) -> Number
+    ensures { λ r. ⌜ r ≡ numberFrom (now (s .entry)) at ⌝ }
+{
+    if s.len() <= at {
+        return Number::Bad;
+    }
+    let b = s[at];
+    match kind_of(b) {
+        Kind::Minus => read_magnitude(s, at + 1),
+        Kind::Zero => Number::Value(0, at + 1),
+        Kind::Digit => {
+            let d = more_digits(s, at + 1, (b - 48) as u32);
+            Number::Value(plus(d.value), d.next)
+        }
+        Kind::Tab => Number::Bad,
+        Kind::End => Number::Bad,
+        Kind::Other => Number::Bad,
+    }
+}

@@ -1,0 +1,20 @@
+-- Laws of the plan text: lines, plans, the reader, the writer.
+pub mod Lines
+pub mod Parsing
+pub mod Words
+pub mod Places
+pub mod Sound
+pub mod Sizes
+pub mod Plans
+pub mod Theorems
+pub mod Counting
+pub mod Passing
+pub mod Verdict
+pub mod Filling
+pub mod Cells
+pub mod Reader
+pub mod Lengths
+pub mod Text
+pub mod Fields
+pub mod Layers
+pub mod Writer

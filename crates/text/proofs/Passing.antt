@@ -1,0 +1,151 @@
+-- The tally stays good behind right lines, and only behind them.
+use mathlib.Core.Path.{_≡_, refl, sym, ap, ap₂, _∙_, subst}
+use mathlib.Core.List.{List, [], _∷_, _++_, append-assoc, append-nil}
+use mathlib.Core.Bool.{Bool, true, false, _&&_}
+use Prim.Native.Nat.{ℕ, zero, suc, _+_, _-_, _≤_, _<_, zero-le}
+use native.Mathlib.Omega.{arith}
+use lib.Dec.{eqb, leb}
+use lib.IntN.{ℤ, pos, negsuc, natAbs}
+use lib.ListN.{length, set, length-append}
+use borrow.Author.Tests.{eqb-true, eq-eqb, leb-true, le-leb, lt-ltb}
+use Rattle.lists.specs.Lists.{sum, padded}
+use Rattle.lists.proofs.Tests.{clash, both, and-true}
+use Rattle.geometry.specs.declared.Rect.{Rect}
+use Rattle.geometry.specs.Rectangles.{inRange}
+use Rattle.text.specs.declared.Line.{Line}
+use Rattle.text.specs.declared.Line.the-variants.{Plan, Layer, Rectangle}
+use Rattle.text.specs.declared.Tally.{Tally}
+use Rattle.text.specs.Lines.{allInner}
+use Rattle.text.specs.Plans.{sizesIn, counted}
+use Rattle.text.specs.Counting.{spoilt, pick, layerRight, withLayer, addLayer, withRect, addRect, addLines}
+use Rattle.text.proofs.Counting.{right}
+use Rattle.text.proofs.Sound.{small, ranged}
+
+-- t is the tally of layers of these sizes
+pub record Tallied (ns : List ℕ) (t : Tally) : Type 0 where
+  pub formed : t .formed ≡ true
+  pub layers : t .layers ≡ length ns
+  pub rects : t .rects ≡ sum ns
+  pub sizes : t .sizes ≡ padded 6 ns
+
+-- the lines are right where `due` RECT lines are to come and there are `layers` already
+pub record Fits (due layers : ℕ) (ls : List Line) : Type 0 where
+  pub count : counted due ls ≡ true
+  pub few : layers + length (sizesIn ls) ≤ 6
+  pub small : small (sizesIn ls) ≡ true
+  pub ranged : ranged ls ≡ true
+
+-- ---- one more
+padded-set : (m n : ℕ) (ns : List ℕ) → length ns < m → set (padded m ns) (length ns) n ≡ padded m (ns ++ n ∷ [])
+padded-set zero n ns h = absurd (omega arith)
+padded-set (suc m) n [] h = refl
+padded-set (suc m) n (x ∷ ns) h = ap (λ (l : List ℕ). x ∷ l) (padded-set m n ns (omega arith))
+
+sum-++ : (l m : List ℕ) → sum (l ++ m) ≡ sum l + sum m
+sum-++ [] m = omega arith
+sum-++ (a ∷ l) m = omega (arith, sum-++ l m)
+
+tallied-layer : (sizes : List ℕ) (t : Tally) (n : ℕ) → t .layers < 6 → Tallied sizes t → Tallied (sizes ++ n ∷ []) (withLayer t n)
+tallied-layer sizes t n h d =
+    record {
+      formed = d .formed;
+      layers = omega (arith, d .layers, length-append sizes (n ∷ []));
+      rects = omega (arith, d .rects, sum-++ sizes (n ∷ []));
+      sizes = ap₂ (λ (l : List ℕ) (i : ℕ). set l i n) (d .sizes) (d .layers) ∙ padded-set 6 n sizes (omega (arith, d .layers));
+    }
+
+tallied-rect : (sizes : List ℕ) (t : Tally) → Tallied sizes t → Tallied sizes (withRect t)
+tallied-rect sizes t d = record { formed = d .formed; layers = d .layers; rects = d .rects; sizes = d .sizes }
+
+layer-is : (t : Tally) (n : ℤ) → layerRight t n ≡ true → addLayer t n ≡ withLayer t (natAbs n)
+unfolding addLayer
+layer-is t n h = rw h
+
+rect-is : (t : Tally) (r : Rect) → 1 ≤ t .due → inRange r ≡ true → addRect t r ≡ withRect t
+unfolding addRect
+rect-is t r h k = rw (le-leb 1 (t .due) h, k)
+
+layer-yes : (t : Tally) (n : ℕ) → t .due ≡ 0 → t .layers < 6 → n ≤ 512 → layerRight t (pos n) ≡ true
+unfolding layerRight
+layer-yes t n e h k = rw (eq-eqb (t .due) 0 e, lt-ltb (t .layers) 6 h, le-leb 0 n zero-le, le-leb n 512 k)
+
+-- ---- right lines keep the tally good
+pub record Passed (sizes : List ℕ) (t : Tally) : Type 0 where
+  pub good : t .good ≡ true
+  pub due : t .due ≡ 0
+  pub done : Tallied sizes t
+
+pub passes : (sizes : List ℕ) (t : Tally) (ls : List Line) → t .good ≡ true → Tallied sizes t → Fits (t .due) (t .layers) ls → Passed (sizes ++ sizesIn ls) (addLines t ls)
+passes sizes t [] g d f = record { good = g; due = eqb-true (t .due) 0 (f .count); done = rw append-nil d }
+passes sizes t (Plan k ∷ ls) g d f = clash (f .count) refl
+passes sizes t (Layer (negsuc n) ∷ ls) g d f = clash (f .count) refl
+passes sizes t (Layer (pos n) ∷ ls) g d f =
+    let c = both (eqb (t .due) 0) (counted n ls) (f .count) in
+    let s = both (leb n 512) (small (sizesIn ls)) (f .small) in
+    let h : t .layers < 6 = omega (arith, f .few) in
+    let r = passes (sizes ++ n ∷ []) (withLayer t n) ls g (tallied-layer sizes t n h d) (record { count = c .1; few = omega (arith, f .few); small = s .1; ranged = f .ranged }) in
+    rw (layer-is t (pos n) (layer-yes t n (eqb-true (t .due) 0 (c .0)) h (leb-true n 512 (s .0)))) (rw append-assoc at r)
+passes sizes t (Rectangle r ∷ ls) g d f = go (t .due) refl (f .count) (passes sizes (withRect t) ls g (tallied-rect sizes t d))
+  where
+    go : (due : ℕ) → t .due ≡ due → counted due (Rectangle r ∷ ls) ≡ true
+        → (Fits (t .due - 1) (t .layers) ls → Passed (sizes ++ sizesIn ls) (addLines (withRect t) ls)) → Passed (sizes ++ sizesIn ls) (addLines (addRect t r) ls)
+    go zero e c p = clash c refl
+    go (suc due) e c p =
+        let k = both (inRange r) (ranged ls) (f .ranged) in
+        let q : due ≡ t .due - 1 = omega arith in
+        let w = p (record { count = subst (λ (m : ℕ). counted m ls ≡ true) q c; few = f .few; small = f .small; ranged = k .1 }) in
+        subst (λ (u : Tally). Passed (sizes ++ sizesIn ls) (addLines u ls)) (sym (rect-is t r (omega arith) (k .0))) w
+
+-- ---- and only right lines do
+good-layer : (t : Tally) (n : ℤ) → addLayer t n .good ≡ true → (t .good ≡ true) × (layerRight t n ≡ true)
+unfolding addLayer
+good-layer t n e = go (layerRight t n) e
+  where
+    go : (b : Bool) → pick b (withLayer t (natAbs n)) (spoilt t) .good ≡ true → (t .good ≡ true) × (b ≡ true)
+    go true k = (k, refl)
+    go false k = clash k refl
+
+good-rect : (t : Tally) (r : Rect) → addRect t r .good ≡ true → (t .good ≡ true) × ((leb 1 (t .due) && inRange r) ≡ true)
+unfolding addRect
+good-rect t r e = go (leb 1 (t .due) && inRange r) e
+  where
+    go : (b : Bool) → pick b (withRect t) (spoilt t) .good ≡ true → (t .good ≡ true) × (b ≡ true)
+    go true k = (k, refl)
+    go false k = clash k refl
+
+good-before : (t : Tally) (ls : List Line) → allInner ls ≡ true → addLines t ls .good ≡ true → t .good ≡ true
+good-before t [] i e = e
+good-before t (Plan k ∷ ls) i e = clash i refl
+good-before t (Layer n ∷ ls) i e = good-layer t n (good-before (addLayer t n) ls i e) .0
+good-before t (Rectangle r ∷ ls) i e = good-rect t r (good-before (addRect t r) ls i e) .0
+
+pub passed : (t : Tally) (ls : List Line) → allInner ls ≡ true → addLines t ls .good ≡ true → addLines t ls .due ≡ 0 → t .layers ≤ 6 → Fits (t .due) (t .layers) ls
+passed t [] i g d h = record { count = eq-eqb (t .due) 0 d; few = omega arith; small = refl; ranged = refl }
+passed t (Plan k ∷ ls) i g d h = clash i refl
+passed t (Layer (negsuc n) ∷ ls) i g d h =
+    let r = right t (negsuc n) (good-layer t (negsuc n) (good-before (addLayer t (negsuc n)) ls i g) .1) in
+    absurd (r .sign)
+passed t (Layer (pos n) ∷ ls) i g d h =
+    let y = good-layer t (pos n) (good-before (addLayer t (pos n)) ls i g) .1 in
+    let r = right t (pos n) y in
+    let e = layer-is t (pos n) y in
+    let f : Fits n (t .layers + 1) ls = passed (withLayer t n) ls i (sym (ap (λ (u : Tally). addLines u ls .good) e) ∙ g) (sym (ap (λ (u : Tally). addLines u ls .due) e) ∙ d) (omega (arith, r .layers)) in
+    record {
+      count = and-true (eqb (t .due) 0) (counted n ls) (eq-eqb (t .due) 0 (r .due)) (f .count);
+      few = omega (arith, f .few);
+      small = and-true (leb n 512) (small (sizesIn ls)) (le-leb n 512 (r .size)) (f .small);
+      ranged = f .ranged;
+    }
+passed t (Rectangle r ∷ ls) i g d h =
+    let y = good-rect t r (good-before (addRect t r) ls i g) .1 in
+    let b = both (leb 1 (t .due)) (inRange r) y in
+    let l = leb-true 1 (t .due) (b .0) in
+    let e = rect-is t r l (b .1) in
+    let f : Fits (t .due - 1) (t .layers) ls = passed (withRect t) ls i (sym (ap (λ (u : Tally). addLines u ls .good) e) ∙ g) (sym (ap (λ (u : Tally). addLines u ls .due) e) ∙ d) h in
+    let q : t .due ≡ suc (t .due - 1) = omega arith in
+    record {
+      count = subst (λ (m : ℕ). counted m (Rectangle r ∷ ls) ≡ true) (sym q) (f .count);
+      few = f .few;
+      small = f .small;
+      ranged = and-true (inRange r) (ranged ls) (b .1) (f .ranged);
+    }

@@ -1,0 +1,68 @@
+-- Six sizes and the first k of them; and how many digits the lines of a sound plan have.
+use mathlib.Core.Path.{_≡_, refl, sym, ap, ap₂}
+use mathlib.Core.List.{List, [], _∷_}
+use mathlib.Core.Bool.{true, _||_}
+use Prim.Native.Nat.{ℕ, zero, suc, _+_, _≤_}
+use native.Mathlib.Omega.{arith}
+use lib.Dec.{eqb, leb, ltb}
+use lib.IntN.{ℤ, pos, negsuc, natAbs}
+use lib.ListN.{length, take}
+use borrow.Author.Tests.{eqb-true, leb-true, lt-ltb, le-ltb}
+use Rattle.lists.proofs.Tests.{clash, both}
+use Rattle.geometry.specs.declared.Rect.{Rect}
+use Rattle.geometry.specs.Rectangles.{inRange}
+use Rattle.geometry.proofs.Integers.{zarith, size-law, one-side}
+use Rattle.geometry.specs.Theorems.{Coordinate}
+use Rattle.geometry.proofs.Rectangles as geometry
+use Rattle.lists.specs.Lists.{padded}
+use Rattle.plan.specs.Plan.{sizeFits, sizesFit}
+use Rattle.decimal.specs.Numerals.{short}
+use Rattle.text.specs.declared.Line.{Line}
+use Rattle.text.specs.declared.Line.the-variants.{Plan, Layer, Rectangle}
+use Rattle.text.specs.Lines.{shortRect, allShort}
+use Rattle.text.specs.Plans.{sizesIn, counted}
+use Rattle.text.proofs.Sound.{small, ranged}
+
+-- ---- the first k sizes, and zeros
+past : (m k j : ℕ) (ns : List ℕ) → length ns ≡ m → k ≤ j → sizesFit k j ns ≡ true → padded m [] ≡ ns
+unfolding sizeFits
+past zero k j [] l h e = refl
+past (suc m) k j [] l h e = absurd (omega arith)
+past zero k j (n ∷ ns) l h e = absurd (omega arith)
+past (suc m) k j (n ∷ ns) l h e =
+    let b = both (sizeFits k j n) (sizesFit k (suc j) ns) e in
+    let z = both (leb n 512) (ltb j k || eqb n 0) (b .0) .1 in
+    ap₂ _∷_ (sym (eqb-true n 0 (rw (le-ltb j k h) at z))) (past m k (suc j) ns (omega arith) (omega arith) (b .1))
+
+pub padded-take : (m i k j : ℕ) (ns : List ℕ) → length ns ≡ m → k ≡ i + j → i ≤ m → sizesFit k j ns ≡ true → padded m (take i ns) ≡ ns
+padded-take m zero k j ns l q h e = past m k j ns l (omega arith) e
+padded-take zero (suc i) k j ns l q h e = absurd (omega arith)
+padded-take (suc m) (suc i) k j [] l q h e = absurd (omega arith)
+padded-take (suc m) (suc i) k j (n ∷ ns) l q h e =
+    ap (λ (r : List ℕ). n ∷ r) (padded-take m i k (suc j) ns (omega arith) (omega arith) (omega arith) (both (sizeFits k j n) (sizesFit k (suc j) ns) e .1))
+
+-- ---- digits
+coordinate-short : (z : ℤ) → Coordinate z → short z ≡ true
+coordinate-short z c = lt-ltb (natAbs z) 10000000 (omega (zarith, c .0, c .1, size-law z, one-side z))
+
+pub rect-short : (r : Rect) → inRange r ≡ true → shortRect r ≡ true
+rect-short r h =
+    let g = geometry.ranged r h in
+    rw (
+      coordinate-short (r .left) (g .left),
+      coordinate-short (r .bottom) (g .bottom),
+      coordinate-short (r .right) (g .right),
+      coordinate-short (r .top) (g .top),
+    )
+
+pub lines-short : (due : ℕ) (ls : List Line) → counted due ls ≡ true → small (sizesIn ls) ≡ true → ranged ls ≡ true → allShort ls ≡ true
+lines-short due [] e s r = refl
+lines-short due (Plan k ∷ ls) e s r = clash e refl
+lines-short due (Layer (negsuc n) ∷ ls) e s r = clash e refl
+lines-short due (Layer (pos n) ∷ ls) e s r =
+    let b = both (leb n 512) (small (sizesIn ls)) s in
+    rw (lt-ltb n 10000000 (omega (arith, leb-true n 512 (b .0)))) (lines-short n ls (both (eqb due 0) (counted n ls) e .1) (b .1) r)
+lines-short zero (Rectangle q ∷ ls) e s r = clash e refl
+lines-short (suc due) (Rectangle q ∷ ls) e s r =
+    let b = both (inRange q) (ranged ls) r in
+    rw (rect-short q (b .0)) (lines-short due ls e s (b .1))

@@ -1,0 +1,124 @@
+-- When the plan that lines give is sound: k from 2 to 6, sizes of at most 512, and rectangles in range.
+use mathlib.Core.Path.{_≡_, refl, sym, ap, ap₂, _∙_}
+use mathlib.Core.List.{List, [], _∷_}
+use mathlib.Core.Bool.{Bool, true, false, _&&_}
+use Prim.Native.Nat.{ℕ, zero, suc, _+_, _*_, _/_, _≤_}
+use native.Mathlib.Omega.{arith}
+use lib.Dec.{eqb, leb}
+use lib.IntN.{ℤ, pos, negsuc}
+use lib.ListN.{length}
+use borrow.Author.Tests.{eqb-true, eq-eqb, le-leb, lt-ltb, le-ltb}
+use Rattle.lists.specs.Lists.{sum, padded}
+use Rattle.lists.proofs.Padding.{padded-long}
+use Rattle.lists.proofs.Tests.{clash, both}
+use Rattle.geometry.specs.declared.Rect.{Rect}
+use Rattle.geometry.specs.Rectangles.{inRange}
+use Rattle.plan.specs.declared.Shape.{Shape}
+use Rattle.plan.specs.Plan.{rectAt, count, sizeFits, sizesFit, allRanged, planCause, Sound}
+use Rattle.plan.proofs.Plan.{Checked, ranged-all}
+use Rattle.text.specs.declared.Line.{Line}
+use Rattle.text.specs.declared.Line.the-variants.{Plan, Layer, Rectangle}
+use Rattle.text.specs.Plans.{sizesIn, cellsIn, shapeIn, counted}
+
+-- each size is at most 512
+abbrev pub small : List ℕ → Bool
+small [] = true
+small (n ∷ ns) = leb n 512 && small ns
+
+-- each rectangle is in range
+abbrev pub ranged : List Line → Bool
+ranged [] = true
+ranged (Plan k ∷ ls) = ranged ls
+ranged (Layer n ∷ ls) = ranged ls
+ranged (Rectangle r ∷ ls) = inRange r && ranged ls
+
+-- ---- sizes and zeros behind them
+zeros-fit : (m j k : ℕ) → k ≤ j → sizesFit k j (padded m []) ≡ true
+unfolding sizeFits
+zeros-fit zero j k h = refl
+zeros-fit (suc m) j k h = rw (le-ltb j k h) (zeros-fit m (suc j) k (omega arith))
+
+and-yes : (b : Bool) → (b && true) ≡ b
+and-yes true = refl
+and-yes false = refl
+
+padded-fit : (m j k : ℕ) (ns : List ℕ) → j + length ns ≡ k → length ns ≤ m → sizesFit k j (padded m ns) ≡ small ns
+unfolding sizeFits
+padded-fit m j k [] e h = zeros-fit m j k (omega arith)
+padded-fit zero j k (n ∷ ns) e h = absurd (omega arith)
+padded-fit (suc m) j k (n ∷ ns) e h =
+    rw (lt-ltb j k (omega arith), and-yes (leb n 512), padded-fit m (suc j) k ns (omega arith) (omega arith))
+
+sum-zeros : (m : ℕ) → sum (padded m []) ≡ 0
+sum-zeros zero = refl
+sum-zeros (suc m) = omega (arith, sum-zeros m)
+
+pub sum-padded : (m : ℕ) (ns : List ℕ) → length ns ≤ m → sum (padded m ns) ≡ sum ns
+sum-padded m [] h = sum-zeros m
+sum-padded zero (n ∷ ns) h = absurd (omega arith)
+sum-padded (suc m) (n ∷ ns) h = ap (λ (k : ℕ). n + k) (sum-padded m ns (omega arith))
+
+-- ---- cells
+pub counted-cells : (due : ℕ) (ls : List Line) → counted due ls ≡ true → length (cellsIn ls) ≡ 4 * (due + sum (sizesIn ls))
+counted-cells due [] e = omega (arith, eqb-true due 0 e)
+counted-cells due (Plan k ∷ ls) e = clash e refl
+counted-cells due (Layer (pos n) ∷ ls) e =
+    let b = both (eqb due 0) (counted n ls) e in
+    omega (arith, eqb-true due 0 (b .0), counted-cells n ls (b .1))
+counted-cells due (Layer (negsuc n) ∷ ls) e = clash e refl
+counted-cells zero (Rectangle r ∷ ls) e = clash e refl
+counted-cells (suc due) (Rectangle r ∷ ls) e = omega (arith, counted-cells due ls e)
+
+pub next-rect : (a b c d : ℤ) (cells : List ℤ) (n : ℕ) → rectAt (a ∷ b ∷ c ∷ d ∷ cells) (suc n) ≡ rectAt cells n
+unfolding rectAt
+next-rect a b c d cells n =
+    let e : 4 * suc n ≡ suc (suc (suc (suc (4 * n)))) = omega arith in
+    let e₁ : 4 * suc n + 1 ≡ suc (suc (suc (suc (4 * n + 1)))) = omega arith in
+    let e₂ : 4 * suc n + 2 ≡ suc (suc (suc (suc (4 * n + 2)))) = omega arith in
+    let e₃ : 4 * suc n + 3 ≡ suc (suc (suc (suc (4 * n + 3)))) = omega arith in
+    rw (e₁, e₂, e₃, e)
+
+and-assoc : (a b c : Bool) → ((a && b) && c) ≡ (a && (b && c))
+and-assoc true b c = refl
+and-assoc false b c = refl
+
+ranged-first : (r : Rect) (cells : List ℤ) (n : ℕ) → allRanged (suc n) (r .left ∷ r .bottom ∷ r .right ∷ r .top ∷ cells) ≡ (inRange r && allRanged n cells)
+ranged-first r cells zero = unfold rectAt in sym (and-yes (inRange r))
+ranged-first r cells (suc n) =
+    ap₂ _&&_ (ranged-first r cells n) (ap inRange (next-rect (r .left) (r .bottom) (r .right) (r .top) cells n))
+    ∙ and-assoc (inRange r) (allRanged n cells) (inRange (rectAt cells n))
+
+ranged-is : (n : ℕ) (ls : List Line) → length (cellsIn ls) ≡ 4 * n → allRanged n (cellsIn ls) ≡ ranged ls
+ranged-is zero [] e = refl
+ranged-is (suc n) [] e = absurd (omega arith)
+ranged-is n (Plan k ∷ ls) e = ranged-is n ls e
+ranged-is n (Layer k ∷ ls) e = ranged-is n ls e
+ranged-is zero (Rectangle r ∷ ls) e = absurd (omega arith)
+ranged-is (suc n) (Rectangle r ∷ ls) e =
+    ranged-first r (cellsIn ls) n ∙ ap (λ (b : Bool). inRange r && b) (ranged-is n ls (omega arith))
+
+-- ---- both together
+pub passed-sound : (ls : List Line) → planCause (shapeIn ls) (cellsIn ls) ≡ 0 → Sound (shapeIn ls) (cellsIn ls)
+unfolding shapeIn
+passed-sound ls e = record { six = padded-long 6 (sizesIn ls); passed = e }
+
+module _ (k : ℕ) (ls : List Line) (layers : length (sizesIn ls) ≡ k) (high : k ≤ 6) (count : counted 0 ls ≡ true) where
+  abbrev shape : Shape
+  shape = record { k = k; sizes = padded 6 (sizesIn ls) }
+
+  whole : length (cellsIn ls) ≡ 4 * sum (padded 6 (sizesIn ls))
+  whole = omega (arith, counted-cells 0 ls count, sum-padded 6 (sizesIn ls) (omega arith))
+
+  in-range : allRanged (length (cellsIn ls) / 4) (cellsIn ls) ≡ ranged ls
+  in-range = ranged-is (length (cellsIn ls) / 4) ls (omega (arith, counted-cells 0 ls count))
+
+  pub sound-lines : 2 ≤ k → small (sizesIn ls) ≡ true → ranged ls ≡ true → planCause shape (cellsIn ls) ≡ 0
+  unfolding planCause
+  sound-lines low s r =
+      rw (le-leb 2 k low, le-leb k 6 high, padded-fit 6 0 k (sizesIn ls) (omega arith) (omega arith) ∙ s, eq-eqb (length (cellsIn ls)) (4 * sum (padded 6 (sizesIn ls))) whole, in-range ∙ r)
+
+  pub lines-small : Checked shape (cellsIn ls) → small (sizesIn ls) ≡ true
+  lines-small c = sym (padded-fit 6 0 k (sizesIn ls) (omega arith) (omega arith)) ∙ c .fit
+
+  pub lines-ranged : Checked shape (cellsIn ls) → ranged ls ≡ true
+  lines-ranged c = sym in-range ∙ ranged-all (cellsIn ls) (length (cellsIn ls) / 4) (c .ranged)

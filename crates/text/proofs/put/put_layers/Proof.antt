@@ -1,0 +1,95 @@
+-- `put_layers` puts layer after layer. The loop's invariant: the layers from j on are left to be put. The measure is how many they are.
+use mathlib.Core.Path.{_≡_, sym}
+use Prim.Native.Nat.{_-_, _<_}
+use native.Mathlib.Omega.{arith}
+use lib.ListN.{length, getD, take}
+use lib.Seq.{getD-take, length-take-le}
+use denote.Ref.{now}
+use Rattle.text.proofs.Layers.{Layers, layers-start, layers-end, layers-inside, layers-fit, layers-more}
+use Rattle.text.proofs.put.put_layers.Statement.{statement}
+use Rattle.text.proofs.put.put_layers.Tie as tie
+
+abbrev Inv-loop : tie.InvT-loop
+Inv-loop buf₀ from sizes k cells at₀ start₀ j₀ buf at start j = Layers buf₀ from (take k sizes) cells buf at start j
+
+abbrev μ-loop : tie.MeasureT-loop
+μ-loop buf₀ from sizes k cells at₀ start₀ j₀ buf at start j = k - j
+
+-- k layers
+layers : (c : tie.Start Inv-loop μ-loop) → length (take (c .args .k) (now (c .args .sizes))) ≡ c .args .k
+layers c = length-take-le (c .args .k) (now (c .args .sizes)) (c .pre .0 .0)
+
+-- this one is among them, and its size
+inside : (c : tie.In-loop Inv-loop μ-loop) → c .before .loop .j < length (take (c .before .before .before .before .args .k) (now (c .before .before .before .before .args .sizes)))
+inside c = omega (arith, layers (c .before .before .before .before), c .loop-test .taken)
+
+size : (c : tie.In-loop Inv-loop μ-loop) → getD (now (c .before .before .before .before .args .sizes)) (c .before .loop .j) 0 ≡ getD (take (c .before .before .before .before .args .k) (now (c .before .before .before .before .args .sizes))) (c .before .loop .j) 0
+size c = sym (getD-take (c .before .before .before .before .args .k) (now (c .before .before .before .before .args .sizes)) (c .before .loop .j) 0 (c .loop-test .taken))
+
+loop-holds : tie.Need-loop-holds Inv-loop μ-loop
+loop-holds c = layers-start _ _ _ _ (c .before .before .pre .0 .2) (c .before .before .pre .1 .0)
+
+mul-n : tie.Need-mul-n Inv-loop μ-loop
+mul-n c = omega (arith, c .before .before .before .before .pre .0 .1)
+
+shared-slice-read-n : tie.Need-shared-slice-read-n Inv-loop μ-loop
+shared-slice-read-n c = omega (arith, c .before .before .before .before .before .pre .0 .0)
+
+cast-layer-cells : tie.Need-cast-layer-cells Inv-loop μ-loop
+cast-layer-cells c = omega (arith, c .before .shared-slice-known2 .given (c .before .before .before .loop .j))
+
+layer-cells-requires : tie.Need-layer-cells-requires Inv-loop μ-loop
+layer-cells-requires c κs = layers-inside _ _ _ _ _ _ _ (c .before .before .before .loop .j) (c .before .before .before .loop .inv) (inside (c .before .before)) _ (size (c .before .before))
+
+put-layer-requires : tie.Need-put-layer-requires Inv-loop μ-loop
+put-layer-requires c κs =
+    let l = c .before .before .before .before .loop in
+    let i = c .before .before .before in
+    layers-fit _ _ _ _ _ _ _ (l .j) (l .inv) (inside i) _ (size i) _ (c .layer-cells .ensures) (c .before .before .before .before .before .before .before .pre .1 .1)
+
+cast-start : tie.Need-cast-start Inv-loop μ-loop
+cast-start c = omega (arith, c .before .before .before .before .before .shared-slice-known2 .given (c .before .before .before .before .before .before .before .loop .j))
+
+add-start : tie.Need-add-start Inv-loop μ-loop
+add-start c =
+    let l = c .before .before .before .before .before .before .before .loop in
+    let i = c .before .before .before .before .before .before in
+    omega (arith, layers-inside _ _ _ _ _ _ _ (l .j) (l .inv) (inside i) _ (size i))
+
+add-j : tie.Need-add-j Inv-loop μ-loop
+add-j c = omega arith
+
+loop-less : tie.Need-loop-less Inv-loop μ-loop
+loop-less c = omega arith
+
+loop-again : tie.Need-loop-again Inv-loop μ-loop
+loop-again c =
+    let l = c .before .before .before .before .before .before .before .loop in
+    let i = c .before .before .before .before .before .before in
+    layers-more _ _ _ _ _ _ _ (l .j) (l .inv) (inside i) _ (size i) _ (c .before .before .before .layer-cells .ensures) _ _ (c .before .before .put-layer .ensures)
+
+same-length : tie.Need-same-length Inv-loop μ-loop
+same-length c = c .before .loop .inv .left .long
+
+returns : tie.Need-returns Inv-loop μ-loop
+returns c = layers-end _ _ _ _ _ _ _ _ (omega (arith, layers (c .before .before .before .before))) (c .before .loop .inv)
+
+pub put-layers-spec : {M : Type 1} → statement M
+put-layers-spec =
+    tie.close
+    (tie.spec
+    Inv-loop
+    μ-loop
+    loop-holds
+    mul-n
+    shared-slice-read-n
+    cast-layer-cells
+    layer-cells-requires
+    put-layer-requires
+    cast-start
+    add-start
+    add-j
+    loop-less
+    loop-again
+    same-length
+    returns)

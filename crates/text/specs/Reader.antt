@@ -1,0 +1,57 @@
+-- What the reader answers (01, "Causes and their numbers", 9 to 11).
+use mathlib.Core.List.{List, [], _∷_, _++_}
+use mathlib.Core.Option.{Option, none, some}
+use Prim.Native.Nat.{ℕ, zero, suc}
+use lib.Dec.{leb}
+use lib.IntN.{ℤ}
+use lib.ListN.{length, drop}
+use Rattle.plan.specs.declared.Shape.{Shape}
+use Rattle.plan.specs.Causes.{unless, _orElse_}
+use Rattle.text.specs.declared.Reading.{Reading}
+use Rattle.text.specs.declared.Line.{Line}
+use Rattle.text.specs.Parsing.{linesOf}
+use Rattle.text.specs.Plans.{shapeIn, cellsIn, agrees}
+
+-- 9 where there are no lines, then 10, then 11: "text accepted, cells fewer than 4n"
+abbrev pub linesCause : ℕ → Option (List Line) → ℕ
+linesCause room none = 9
+linesCause room (some ls) = unless (agrees ls) 10 orElse unless (leb (length (cellsIn ls)) room) 11
+
+-- the cause that refuses a text where `room` cells are lent
+unfoldable pub readCause : ℕ → List ℕ → ℕ
+readCause room t = linesCause room (linesOf t)
+
+-- the lines, and none where the text is not well formed
+abbrev pub linesOr : Option (List Line) → List Line
+linesOr none = []
+linesOr (some ls) = ls
+
+-- the shape that an accepted text gives
+unfoldable pub textShape : List ℕ → Shape
+textShape t = shapeIn (linesOr (linesOf t))
+
+-- the cells that it gives
+unfoldable pub textCells : List ℕ → List ℤ
+textCells t = cellsIn (linesOr (linesOf t))
+
+-- k and all sizes 0
+abbrev pub noShape : Shape
+noShape = record { k = 0; sizes = 0 ∷ 0 ∷ 0 ∷ 0 ∷ 0 ∷ 0 ∷ [] }
+
+-- 01: "A refusal returns its number and 0 for all else"
+abbrev pub reading : ℕ → Shape → Reading
+reading zero s = record { number = 0; shape = s }
+reading (suc cause) s = record { number = suc cause; shape = noShape }
+
+-- what the reader answers where `room` cells are lent
+abbrev pub readAnswer : ℕ → List ℕ → Reading
+readAnswer room t = reading (readCause room t) (textShape t)
+
+-- 01: "fills the first 4n cells, keeps the others"; a refusal keeps all
+abbrev pub filledOr : ℕ → List ℤ → List ℤ → List ℤ
+filledOr zero new cells = new ++ drop (length new) cells
+filledOr (suc cause) new cells = cells
+
+-- the lent cells afterwards
+abbrev pub cellsAfter : List ℕ → List ℤ → List ℤ
+cellsAfter t cells = filledOr (readCause (length cells) t) (textCells t) cells

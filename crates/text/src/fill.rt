@@ -1,0 +1,57 @@
+// The reader's second pass: the cells of an accepted text.
+use crate::Found;
+use crate::Line;
+use crate::parse::read_line;
+use geometry::Rect;
+ghost use mathlib.Core.List.{[], _∷_};
+ghost use Prim.Native.Nat.{_+_, _≤_};
+ghost use lib.ListN.{length, drop};
+ghost use Rattle.decimal.specs.Stores.{Put};
+ghost use Rattle.text.specs.declared.Line.the-variants.{Rectangle};
+ghost use Rattle.text.specs.Plans.{cellsIn};
+ghost use Rattle.text.specs.Filling.{restCells, Room};
+
+// A rectangle's four cells from a place on; the place behind them.
+fn put_rect(cells: &mut [i32], i: usize, r: Rect) -> usize
+    requires { ⌜ i + 4 ≤ length (now cells) ⌝ }
+    ensures { λ v. ⌜ Put (now (cells .entry)) i (cellsIn (Rectangle r ∷ [])) (now (cells .exit)) v ⌝ }
+{
+    let left = r.left;
+    let bottom = r.bottom;
+    let right = r.right;
+    let top = r.top;
+    cells[i] = left;
+    cells[i + 1] = bottom;
+    cells[i + 2] = right;
+    cells[i + 3] = top;
+    i + 4
+}
+
+// The cells that a line gives, from a place on; the place behind them.
+fn put_line(cells: &mut [i32], i: usize, line: Line) -> usize
+    requires { ⌜ i + length (cellsIn (line ∷ [])) ≤ length (now cells) ⌝ }
+    ensures { λ v. ⌜ Put (now (cells .entry)) i (cellsIn (line ∷ [])) (now (cells .exit)) v ⌝ }
+{
+    match line {
+        Line::Plan(_) => i,
+        Line::Layer(_) => i,
+        Line::Rectangle(r) => put_rect(cells, i, r),
+    }
+}
+
+// The cells that all lines from a place on give, from the first cell on.
+pub fn fill(s: &[u8], from: usize, cells: &mut [i32]) -> usize
+    requires { ⌜ Room (now s) from (length (now cells)) ⌝ }
+    ensures { λ v. ⌜ Put (now (cells .entry)) 0 (restCells (drop from (now (s .entry)))) (now (cells .exit)) v ⌝ }
+{
+    let mut at = from;
+    let mut i: usize = 0;
+    while at < s.len() {
+        let Found::At(line, next) = read_line(s, at) else {
+            return i;
+        };
+        i = put_line(cells, i, line);
+        at = next;
+    }
+    i
+}

@@ -1,0 +1,64 @@
+// How many bytes a text takes, before it is written.
+use decimal::numeral_size;
+use decimal::size_of;
+use geometry::Rect;
+use plan::Shape;
+use plan::rect_at;
+ghost use mathlib.Core.Path.{_≡_};
+ghost use mathlib.Core.Bool.{true};
+ghost use mathlib.Core.List.{[]};
+ghost use Prim.Native.Nat.{_*_, _≤_};
+ghost use lib.ListN.{length, take};
+ghost use Rattle.plan.specs.Plan.{Sound};
+ghost use Rattle.text.specs.declared.Line.the-variants.{Rectangle};
+ghost use Rattle.text.specs.Lines.{spellTo, spell, shortRect, allShort};
+ghost use Rattle.text.specs.Plans.{rectLines, textOf};
+ghost use Rattle.text.specs.Lengths.{layersLength};
+
+// The length of a RECT line.
+fn rect_size(r: Rect) -> usize
+    requires { ⌜ shortRect r ≡ true ⌝ }
+    ensures { λ v. ⌜ v ≡ length (spellTo (Rectangle r) []) ⌝ }
+{
+    9 + numeral_size(r.left) + numeral_size(r.bottom) + numeral_size(r.right) + numeral_size(r.top)
+}
+
+// The length of the RECT lines of n rectangles.
+fn rects_size(cells: &[i32], n: usize) -> usize
+    requires { ⌜ (length (now cells) ≡ 4 * n) × (n ≤ 3072) × (allShort (rectLines (now cells)) ≡ true) ⌝ }
+    ensures { λ v. ⌜ v ≡ length (spell (rectLines (now (cells .entry)))) ⌝ }
+{
+    let mut size: usize = 0;
+    let mut p: usize = 0;
+    while p < n {
+        size += rect_size(rect_at(cells, p));
+        p += 1;
+    }
+    size
+}
+
+// The length of the LAYER lines of the first k sizes.
+fn layers_size(sizes: &[u32], k: usize) -> usize
+    requires { ⌜ (k ≤ length (now sizes)) × (k ≤ 6) ⌝ }
+    ensures { λ v. ⌜ v ≡ layersLength (take k (now (sizes .entry))) ⌝ }
+{
+    let mut size: usize = 0;
+    let mut j: usize = 0;
+    while j < k {
+        size += 7 + size_of(sizes[j] as u64);
+        j += 1;
+    }
+    size
+}
+
+// The length of the text of a sound plan.
+pub fn text_size(shape: Shape, cells: &[i32]) -> usize
+    requires { ⌜ Sound shape (now cells) ⌝ }
+    ensures { λ v. ⌜ v ≡ length (textOf shape (now (cells .entry))) ⌝ }
+{
+    let k = shape.k;
+    6
+        + size_of(k as u64)
+        + layers_size(&shape.sizes, k as usize)
+        + rects_size(cells, cells.len() / 4)
+}

@@ -1,0 +1,121 @@
+// Lines, put into a buffer at a place.
+use decimal::put_decimal;
+use decimal::put_number;
+use geometry::Rect;
+use plan::Shape;
+use plan::layer_cells;
+use plan::rect_at;
+ghost use mathlib.Core.Path.{_≡_};
+ghost use mathlib.Core.Bool.{true};
+ghost use mathlib.Core.List.{[], _∷_, _++_};
+ghost use Prim.Native.Nat.{_+_, _*_, _≤_};
+ghost use lib.IntN.{pos};
+ghost use lib.ListN.{length, take};
+ghost use Rattle.lists.specs.Lists.{sum};
+ghost use Rattle.plan.specs.Plan.{Sound};
+ghost use Rattle.decimal.specs.Numerals.{short};
+ghost use Rattle.decimal.specs.Stores.{Put};
+ghost use Rattle.text.specs.declared.Line.the-variants.{Layer, Rectangle};
+ghost use Rattle.text.specs.Lines.{put, spellTo, spell, shortRect, allShort};
+ghost use Rattle.text.specs.Plans.{rectLines, layerLines, textOf};
+
+// A word; the place behind it.
+fn put_word(buf: &mut [u8], at: usize, word: &[u8]) -> usize
+    requires { ⌜ at + length (now word) ≤ length (now buf) ⌝ }
+    ensures { λ r. ⌜ Put (now (buf .entry)) at (now (word .entry)) (now (buf .exit)) r ⌝ }
+{
+    let mut i: usize = 0;
+    while i < word.len() {
+        buf[at + i] = word[i];
+        i += 1;
+    }
+    at + i
+}
+
+// A line of a word and a number; the place behind it.
+fn put_count(buf: &mut [u8], at: usize, word: &[u8], n: u32) -> usize
+    requires { ⌜ at + length (now word ++ put (pos n) 10 []) ≤ length (now buf) ⌝ }
+    ensures { λ r. ⌜ Put (now (buf .entry)) at (now (word .entry) ++ put (pos n) 10 []) (now (buf .exit)) r ⌝ }
+{
+    let a = put_word(buf, at, word);
+    let b = put_decimal(buf, a, n as u64);
+    buf[b] = b'\n';
+    b + 1
+}
+
+// A number and the byte that ends its field; the place behind it.
+fn put_field(buf: &mut [u8], at: usize, z: i32, e: u8) -> usize
+    requires { ⌜ (short z ≡ true) × (at + length (put z e []) ≤ length (now buf)) ⌝ }
+    ensures { λ r. ⌜ Put (now (buf .entry)) at (put z e []) (now (buf .exit)) r ⌝ }
+{
+    let next = put_number(buf, at, z);
+    buf[next] = e;
+    next + 1
+}
+
+// A RECT line; the place behind it.
+fn put_rect(buf: &mut [u8], at: usize, r: Rect) -> usize
+    requires { ⌜ (shortRect r ≡ true) × (at + length (spellTo (Rectangle r) []) ≤ length (now buf)) ⌝ }
+    ensures { λ q. ⌜ Put (now (buf .entry)) at (spellTo (Rectangle r) []) (now (buf .exit)) q ⌝ }
+{
+    let a = put_word(buf, at, b"RECT\t");
+    let b = put_field(buf, a, r.left, b'\t');
+    let c = put_field(buf, b, r.bottom, b'\t');
+    let d = put_field(buf, c, r.right, b'\t');
+    put_field(buf, d, r.top, b'\n')
+}
+
+// The RECT lines of n rectangles; the place behind them.
+fn put_rects(buf: &mut [u8], from: usize, cells: &[i32], n: usize) -> usize
+    requires { ⌜ (length (now cells) ≡ 4 * n) × (allShort (rectLines (now cells)) ≡ true) ⌝ }
+    requires { ⌜ from + length (spell (rectLines (now cells))) ≤ length (now buf) ⌝ }
+    ensures { λ r. ⌜ Put (now (buf .entry)) from (spell (rectLines (now (cells .entry)))) (now (buf .exit)) r ⌝ }
+{
+    let mut at = from;
+    let mut p: usize = 0;
+    while p < n {
+        at = put_rect(buf, at, rect_at(cells, p));
+        p += 1;
+    }
+    at
+}
+
+// The LAYER line and the RECT lines of a layer; the place behind them.
+fn put_layer(buf: &mut [u8], at: usize, n: u32, cells: &[i32]) -> usize
+    requires { ⌜ (length (now cells) ≡ 4 * n) × (allShort (rectLines (now cells)) ≡ true) ⌝ }
+    requires { ⌜ at + length (spell (Layer (pos n) ∷ rectLines (now cells))) ≤ length (now buf) ⌝ }
+    ensures { λ r. ⌜ Put (now (buf .entry)) at (spell (Layer (pos n) ∷ rectLines (now (cells .entry)))) (now (buf .exit)) r ⌝ }
+{
+    let a = put_count(buf, at, b"LAYER\t", n);
+    put_rects(buf, a, cells, n as usize)
+}
+
+// The lines of the first k layers; the place behind them.
+fn put_layers(buf: &mut [u8], from: usize, sizes: &[u32], k: usize, cells: &[i32]) -> usize
+    requires { ⌜ (k ≤ length (now sizes)) × (k ≤ 6) × (length (now cells) ≡ 4 * sum (take k (now sizes))) ⌝ }
+    requires { ⌜ allShort (layerLines (take k (now sizes)) (now cells)) ≡ true ⌝ }
+    requires { ⌜ from + length (spell (layerLines (take k (now sizes)) (now cells))) ≤ length (now buf) ⌝ }
+    ensures { λ r. ⌜ Put (now (buf .entry)) from (spell (layerLines (take k (now (sizes .entry))) (now (cells .entry)))) (now (buf .exit)) r ⌝ }
+{
+    let mut at = from;
+    let mut start: usize = 0;
+    let mut j: usize = 0;
+    while j < k {
+        let n = sizes[j];
+        at = put_layer(buf, at, n, layer_cells(cells, start, n as usize));
+        start += n as usize;
+        j += 1;
+    }
+    at
+}
+
+// The text of a sound plan, at the start of the buffer; its length.
+pub fn put_plan(buf: &mut [u8], shape: Shape, cells: &[i32]) -> usize
+    requires { ⌜ Sound shape (now cells) ⌝ }
+    requires { ⌜ length (textOf shape (now cells)) ≤ length (now buf) ⌝ }
+    ensures { λ r. ⌜ Put (now (buf .entry)) 0 (textOf shape (now (cells .entry))) (now (buf .exit)) r ⌝ }
+{
+    let k = shape.k;
+    let at = put_count(buf, 0, b"PLAN\t", k);
+    put_layers(buf, at, &shape.sizes, k as usize, cells)
+}
