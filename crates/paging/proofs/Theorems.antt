@@ -1,27 +1,33 @@
 -- Demand 3 holds of every list of page calls on any plan, and of the whole run on every sound one.
-use mathlib.Core.Path.{_≡_, refl, _∙_}
+use mathlib.Core.Path.{_≡_, refl, sym, _∙_}
 use mathlib.Core.List.{List, map}
-use mathlib.Core.Option.{some}
+use mathlib.Core.Option.{Option, none, some}
+use mathlib.Core.Bool.{true}
 use Prim.Native.Nat.{ℕ, zero, suc}
 use native.Mathlib.Omega.{arith}
 use lib.IntN.{ℤ}
 use lib.ListN.{length, take, drop}
+use lib.Seq.{drop-append-seam}
 use Rattle.lists.specs.Lists.{All}
-use Rattle.lists.proofs.Lists.{all-at, all-of-mem}
+use Rattle.lists.proofs.Lists.{all-map, all-at, all-of-mem}
+use Rattle.lists.proofs.Tests.{clash}
+use Rattle.geometry.specs.declared.Rect.{Rect}
 use Rattle.plan.specs.declared.Shape.{Shape}
 use Rattle.plan.specs.Plan.{planCause, Sound}
 use Rattle.plan.specs.Sweep.{sweepOrder}
 use Rattle.join.specs.Table.{tableOf}
 use Rattle.join.proofs.Theorems.{tables}
-use Rattle.search.specs.Traversal.{rowOf}
+use Rattle.search.specs.Traversal.{Probe, rowOf}
 use Rattle.search.specs.Paging.{rowsOf}
 use Rattle.walk.specs.Walk.{walkOf, placesOf}
 use Rattle.walk.proofs.Theorems.{walk-is-table}
-use Rattle.paging.specs.Cursors.{dueCursor, resume}
-use Rattle.paging.specs.Calls.{freshCall, pageCause}
-use Rattle.paging.specs.Theorems.{Call, Chain, handed, reported, PagingHolds, Demand3}
-use Rattle.paging.proofs.Resume.{resume-due}
-use Rattle.paging.proofs.Causes.{fresh-passes, call-causes}
+use Rattle.paging.specs.Cursors.{cursorOf, endedCursor, dueCursor, resume}
+use Rattle.paging.specs.Calls.{freshCause, freshCall, named, pageCause}
+use Rattle.paging.specs.Theorems.{Call, cause, Chain, Says, PageHolds, handed, reported, PagingHolds, Demand3}
+use Rattle.paging.proofs.Resume.{resume-is, walk-deep, resume-due}
+use Rattle.paging.proofs.Causes.{fresh-passes, call-causes, refuses}
+use Rattle.plan.proofs.Plan.{unless-zero, or-else-zero}
+use Rattle.paging.proofs.Cursors.{cursor-path}
 use Rattle.paging.proofs.Calls.{Agrees}
 use Rattle.paging.proofs.Lasts.{last-none}
 use Rattle.paging.proofs.Chains.{Delivers, reported-same, areas-same, chain-refused, chain-agrees, chain-delivered}
@@ -71,14 +77,36 @@ cursor-taken : (s : Shape) (cells : List ℤ) (n : ℕ) → Sound s cells
 unfolding pageCause
 cursor-taken s cells n sound = let e = resume-due s cells (sound .six) n in (rw (fresh-passes s cells (sound .passed), e), e)
 
+-- what is left at an accepted cursor is what is left after some number of probes
+page-left : (x : Call) → length (x .shape .sizes) ≡ 6 → cause x ≡ 0
+    → (n : ℕ) × (x .cursor ≡ dueCursor (x .shape) (drop n (walkOf (x .shape) (x .cells)))) × PageHolds x (drop n (walkOf (x .shape) (x .cells)))
+unfolding pageCause
+page-left x six e = go (resume (x .shape) (x .cells) (x .cursor)) refl
+  where
+    walk : List (Probe Rect)
+    walk = walkOf (x .shape) (x .cells)
+
+    go : (o : Option (List (Probe Rect))) → resume (x .shape) (x .cells) (x .cursor) ≡ o → (n : ℕ) × (x .cursor ≡ dueCursor (x .shape) (drop n walk)) × PageHolds x (drop n walk)
+    go none r = absurd (let z : named (resume (x .shape) (x .cells) (x .cursor)) ≡ true = unless-zero _ 5 (or-else-zero (freshCause (x .shape) (x .cells) (x .order)) _ e .1) in clash z (rw r))
+    go (some w) r =
+        let l = resume-is (x .shape) (x .cells) (x .cursor) w r in
+        let z : drop (length (l .before)) walk ≡ w = rw (← l .splits) (drop-append-seam (l .before) w) in
+        (length (l .before), rw z (sym (l .due)), rw z (page-holds x w six e r))
+
+-- the cursor of each probe says its guard and its path
+cursor-says : (s : Shape) (cells : List ℤ) → length (s .sizes) ≡ 6 → All (λ t. Says s (cursorOf s t) t) (walkOf s cells)
+cursor-says s cells six = all-map (λ t h. record { layer = refl; place = refl; path = cursor-path s t h }) (walk-deep s cells six)
+
 -- ---- demand 3
 pub demand3 : Demand3
 demand3 = record {
   table = tables .tables;
   walk = walk-is-table;
   causes = call-causes;
+  refused = refuses;
+  says = cursor-says;
   taken = cursor-taken;
-  page = page-holds;
+  page = page-left;
   paging = paging-holds;
-  run = run-holds;
+  run = λ s cells order table six e. let h = call-causes s cells order endedCursor table six .fresh .0 e in run-holds s cells order table (record { six = six; passed = h .0 }) (h .1);
 }

@@ -12,8 +12,8 @@ use lib.Dec.{eqb, ltb}
 use lib.ListN.{length, getD, take, drop}
 use Rattle.lists.specs.Lists.{All, sum, keep}
 use Rattle.plan.specs.declared.Shape.{Shape}
-use Rattle.plan.specs.Plan.{layers, planCause, Sound}
-use Rattle.plan.specs.Sweep.{Has, sweepOrder}
+use Rattle.plan.specs.Plan.{sizesOf, layers, planCause, Sound}
+use Rattle.plan.specs.Sweep.{Has, spotOf, sweepOrder}
 use Rattle.join.specs.Join.{areaIn}
 use Rattle.join.specs.Table.{tableOf}
 use Rattle.join.specs.Theorems.{TableHolds}
@@ -25,8 +25,8 @@ use Rattle.walk.specs.Theorems.{WalkIsTable}
 use Rattle.paging.specs.declared.Cursor.{Cursor}
 use Rattle.paging.specs.declared.Page.{Page}
 use Rattle.paging.specs.declared.Stop.the-variants.{Ended, Full, Spent}
-use Rattle.paging.specs.Cursors.{endedCursor, dueCursor, resume}
-use Rattle.paging.specs.Calls.{capacity, freshCause, freshCall, pageCause, pageCall, pageTable, runCause, refusedRun, runCall, runTable}
+use Rattle.paging.specs.Cursors.{cursorOf, endedCursor, dueCursor, resume}
+use Rattle.paging.specs.Calls.{capacity, freshCause, freshCall, stopNumber, refusedPage, pageCause, pageCall, pageTable, runCause, refusedRun, runCall, runTable}
 
 -- ---- a page call: whatever it brings
 pub record Call : Type 0 where
@@ -83,6 +83,13 @@ pub record Last (xs : List Call) (x : Call) : Type 0 where
   pub none-after : All (λ y. cause y ≡ 0 → ⊥) behind
 
 -- ---- causes
+-- 01: "the guard's layer and place, how many slots are filled (0 to 4), the chosen places in five cells (unfilled ones 0), first slot first, and the place
+-- to try": what the cursor of a probe says of it
+pub record Says (s : Shape) (c : Cursor) (t : Probe Rect) : Type 0 where
+  pub layer : c .layer ≡ suc (spotOf (sizesOf s) (t .guard) .layer)
+  pub place : c .place ≡ spotOf (sizesOf s) (t .guard) .place
+  pub path : take (c .filled) (c .chosen) ++ c .next ∷ [] ≡ t .path
+
 -- the cursor names a probe of the walk, field by field
 pub record NamesProbe (s : Shape) (cells : List ℤ) (c : Cursor) : Type 0 where
   -- it does not say Ended
@@ -100,14 +107,32 @@ pub record NamesProbe (s : Shape) (cells : List ℤ) (c : Cursor) : Type 0 where
 abbrev pub Good : Shape → List ℤ → Cursor → Type 0
 Good s cells c = (c ≡ endedCursor) ⊎ NamesProbe s cells c
 
--- each cause of the calls applies in exactly the stated case, and where no earlier one does (1 to 4: `Plans` of the crate plan)
+-- each cause of the calls applies in exactly the stated case, and where no earlier one does (1 to 4 in words: `Plans` of the crate plan)
 pub record CallCauses (s : Shape) (cells : List ℤ) (order : List ℕ) (c : Cursor) (table : List ℕ) : Type 0 where
   pub fresh : (freshCause s cells order ≡ 0) ↔ ((planCause s cells ≡ 0) × (order ≡ sweepOrder cells))
+  pub plan : (n : ℕ) → 0 < n → n < 5 → (freshCause s cells order ≡ n) ↔ (planCause s cells ≡ n)
   pub five : (freshCause s cells order ≡ 5) ↔ ((planCause s cells ≡ 0) × (order ≡ sweepOrder cells → ⊥))
   pub page : (pageCause s cells order c ≡ 0) ↔ ((freshCause s cells order ≡ 0) × Good s cells c)
+  pub page-earlier : (n : ℕ) → 0 < n → n < 6 → (pageCause s cells order c ≡ n) ↔ (freshCause s cells order ≡ n)
   pub six : (pageCause s cells order c ≡ 6) ↔ ((freshCause s cells order ≡ 0) × (Good s cells c → ⊥))
   pub run : (runCause s cells order table ≡ 0) ↔ ((freshCause s cells order ≡ 0) × (length (tableOf s cells) ≤ capacity s table))
+  pub run-earlier : (n : ℕ) → 0 < n → n < 7 → (runCause s cells order table ≡ n) ↔ (freshCause s cells order ≡ n)
   pub seven : (runCause s cells order table ≡ 7) ↔ ((freshCause s cells order ≡ 0) × (capacity s table < length (tableOf s cells)))
+  -- and there are no others
+  pub most : (freshCause s cells order ≤ 5) × (pageCause s cells order c ≤ 6) × (runCause s cells order table ≤ 7)
+
+-- 01: "A refusal returns its number and 0 for all else; a page call also returns its ticket as given, and the fresh-ticket call returns Ended." Every
+-- buffer is left as it was
+pub record Refuses (x : Call) : Type 0 where
+  -- the number that each call tells
+  pub fresh-number : freshCall (x .shape) (x .cells) (x .order) .number ≡ freshCause (x .shape) (x .cells) (x .order)
+  pub page-number : stopNumber (answer x .stop) ≡ cause x
+  pub run-number : runCall (x .shape) (x .cells) (x .order) (x .table) .number ≡ runCause (x .shape) (x .cells) (x .order) (x .table)
+  -- all else
+  pub fresh : (n : ℕ) → freshCause (x .shape) (x .cells) (x .order) ≡ suc n → freshCall (x .shape) (x .cells) (x .order) .cursor ≡ endedCursor
+  pub page : (n : ℕ) → cause x ≡ suc n → (answer x ≡ refusedPage (x .cursor) (suc n)) × (after x ≡ x .table)
+  pub run : (n : ℕ) → runCause (x .shape) (x .cells) (x .order) (x .table) ≡ suc n
+      → (runCall (x .shape) (x .cells) (x .order) (x .table) ≡ refusedRun (suc n)) × (runTable (x .shape) (x .cells) (x .order) (x .table) ≡ x .table)
 
 -- ---- one accepted page call; w is what is left of the walk at its cursor
 pub record PageHolds (x : Call) (w : List (Probe Rect)) : Type 0 where
@@ -146,7 +171,7 @@ pub record PagingHolds (s : Shape) (cells : List ℤ) (xs : List Call) : Type 0 
   -- where none comes."
   pub last : (x : Call) → Last xs x → answer x .cursor ≡ dueCursor s (drop (reported xs) (walkOf s cells))
 
--- "Given a sound plan and order, the whole run succeeds exactly when the table fits, and then hands out all its rows and reports that length."
+-- 01: plan and order "are sound for the whole run when none of its checks before 7 refuses". "Given a sound plan and order, the whole run succeeds exactly when the table fits, and then hands out all its rows and reports that length."
 pub record RunHolds (s : Shape) (cells : List ℤ) (order table : List ℕ) : Type 0 where
   pub succeeds : (runCause s cells order table ≡ 0) ↔ (length (tableOf s cells) ≤ capacity s table)
   pub rows : runCause s cells order table ≡ 0 → rowsIn (s .k) (runCall s cells order table .rows) (runTable s cells order table) ≡ tableOf s cells
@@ -163,12 +188,17 @@ pub record Demand3 : Type 0 where
   pub walk : (s : Shape) (cells : List ℤ) → Sound s cells → WalkIsTable s cells
   -- the causes of the calls; a shape has six sizes, as the type [u32; 6] says
   pub causes : (s : Shape) (cells : List ℤ) (order : List ℕ) (c : Cursor) (table : List ℕ) → length (s .sizes) ≡ 6 → CallCauses s cells order c table
+  -- what a refused call returns and leaves
+  pub refused : (x : Call) → Refuses x
+  -- the cursor of each probe says which it is
+  pub says : (s : Shape) (cells : List ℤ) → length (s .sizes) ≡ 6 → All (λ t. Says s (cursorOf s t) t) (walkOf s cells)
   -- the cursor of what is left after any number of probes is accepted, and names just that
   pub taken : (s : Shape) (cells : List ℤ) (n : ℕ) → Sound s cells
       → (pageCause s cells (sweepOrder cells) (dueCursor s (drop n (walkOf s cells))) ≡ 0) × (resume s cells (dueCursor s (drop n (walkOf s cells))) ≡ some (drop n (walkOf s cells)))
-  -- each accepted call
-  pub page : (x : Call) (w : List (Probe Rect)) → length (x .shape .sizes) ≡ 6 → cause x ≡ 0 → resume (x .shape) (x .cells) (x .cursor) ≡ some w → PageHolds x w
+  -- each accepted call: its cursor is that of what is left after some number of probes, and the page is of that
+  pub page : (x : Call) → length (x .shape .sizes) ≡ 6 → cause x ≡ 0
+      → (n : ℕ) × (x .cursor ≡ dueCursor (x .shape) (drop n (walkOf (x .shape) (x .cells)))) × PageHolds x (drop n (walkOf (x .shape) (x .cells)))
   -- every list of page calls whose first accepted call brings the fresh cursor, on any plan
   pub paging : (s : Shape) (cells : List ℤ) (xs : List Call) → length (s .sizes) ≡ 6 → Chain s cells (freshCall s cells (sweepOrder cells) .cursor) xs → PagingHolds s cells xs
   -- the whole run
-  pub run : (s : Shape) (cells : List ℤ) (order table : List ℕ) → Sound s cells → order ≡ sweepOrder cells → RunHolds s cells order table
+  pub run : (s : Shape) (cells : List ℤ) (order table : List ℕ) → length (s .sizes) ≡ 6 → freshCause s cells order ≡ 0 → RunHolds s cells order table

@@ -55,6 +55,12 @@ module _ {P : Type 0} where
   check-failed zero {t = false} n l f = (λ e. (refl, f refl .if-false refl), λ h. refl)
   check-failed (suc a) n l f = (λ e. absurd (omega arith), λ h. absurd (omega (arith, h .0)))
 
+-- a cause that is not the last check's applies exactly where an earlier check gives it
+pub check-others : (a : ℕ) (t : Bool) (m n : ℕ) → 0 < n → (n ≡ m → ⊥) → ((a orElse unless t m) ≡ n) ↔ (a ≡ n)
+check-others zero true m n p x = (λ e. e, λ e. e)
+check-others zero false m n p x = (λ e. absurd (x (sym e)), λ e. absurd (omega arith))
+check-others (suc a) t m n p x = (λ e. e, λ e. e)
+
 -- ---- a size
 pub size-large : (k j n : ℕ) → 512 < n → false ≡ sizeFits k j n
 unfolding sizeFits
