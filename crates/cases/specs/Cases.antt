@@ -1,6 +1,6 @@
 -- Theorem: the cases of 01's "Ground to check" that are marked (P), as one list, and what it means that a case holds of the definitions.
 use mathlib.Core.Path.{_≡_}
-use mathlib.Core.List.{List, [], _∷_, map}
+use mathlib.Core.List.{List, [], _∷_, _++_, map}
 use Prim.Native.Nat.{ℕ}
 use lib.IntN.{ℤ, pos}
 use lib.ListN.{length}
@@ -15,6 +15,9 @@ use Rattle.paging.specs.declared.Stop.{Stop}
 use Rattle.paging.specs.declared.Stop.the-variants.{Ended, Full, Spent}
 use Rattle.paging.specs.Cursors.{endedCursor}
 use Rattle.paging.specs.Calls.{freshCall, pageCall}
+use Rattle.text.specs.declared.Reading.{Reading}
+use Rattle.text.specs.Lines.{PLAN, LAYER, RECT}
+use Rattle.text.specs.Reader.{readAnswer, cellsAfter}
 
 -- ---- what cases are made of
 -- a row as the report tells it: the guard's layer, the places, the area
@@ -38,6 +41,8 @@ pub data Case : Type 0 where
   Listed : Shape → List ℤ → List Told → ℕ → Case
   -- the fresh cursor of a plan
   Fresh : Shape → List ℤ → Cursor → Case
+  -- a text, lent cells, what the reader must answer, and the cells afterwards
+  Read : List ℕ → List ℤ → Reading → List ℤ → Case
   -- page calls, one after the other, from the fresh cursor on
   Paged : Shape → List ℤ → List Turn → Case
 
@@ -54,8 +59,9 @@ Turns s cells c (t ∷ ts) =
 
 abbrev pub Holds : Case → Type 0
 Holds (Caused s cells cause) = planCause s cells ≡ cause
-Holds (Listed s cells rows probes) = (map (told s cells) (tableOf s cells) ≡ rows) × (length (walkOf s cells) ≡ probes)
-Holds (Fresh s cells c) = freshCall s cells (sweepOrder cells) .cursor ≡ c
+Holds (Listed s cells rows probes) = (planCause s cells ≡ 0) × (map (told s cells) (tableOf s cells) ≡ rows) × (length (walkOf s cells) ≡ probes)
+Holds (Fresh s cells c) = freshCall s cells (sweepOrder cells) ≡ record { number = 0; cursor = c }
+Holds (Read t cells r after) = (readAnswer (length cells) t ≡ r) × (cellsAfter t cells ≡ after)
 Holds (Paged s cells ts) = Turns s cells (freshCall s cells (sweepOrder cells) .cursor) ts
 
 -- ---- the plans
@@ -92,12 +98,20 @@ one = box 2 2 4 4 []
 abbrev pub same : List ℤ
 same = box 2 2 4 4 one
 
+-- ---- the texts
+-- a text that is sound where the right of its RECT, spelled so, is from 0 to 1000000
+abbrev pub textWith : List ℕ → List ℕ
+textWith right = PLAN ++ 50 ∷ 10 ∷ LAYER ++ 49 ∷ 10 ∷ RECT ++ 48 ∷ 9 ∷ 48 ∷ 9 ∷ right ++ 9 ∷ 53 ∷ 10 ∷ LAYER ++ 48 ∷ 10 ∷ []
+
+-- that it is refused: the lent cells stay
+abbrev pub refused : List ℕ → ℕ → Case
+refused t cause = Read t (box 7 7 7 7 []) (record { number = cause; shape = shape 0 0 0 0 }) (box 7 7 7 7 [])
+
 -- ---- the list
 abbrev pub cases : List Case
 cases =
     -- "D: two rows, four trials."
-    Caused d dCells 0
-    ∷ Listed d dCells (row 2 (0 ∷ 0 ∷ []) 250000 ∷ row 1 (1 ∷ 0 ∷ []) 0 ∷ []) 4
+    Listed d dCells (row 2 (0 ∷ 0 ∷ []) 250000 ∷ row 1 (1 ∷ 0 ∷ []) 0 ∷ []) 4
     -- "D, budget 2, ten cells: one row, Spent; again: one row, Ended."
     ∷ Paged d dCells (turn 2 ten Spent 1 2 ∷ turn 2 ten Ended 1 2 ∷ [])
     -- "D, a table of two cells, budget 9: two trials, Full; again: two trials, Ended."
@@ -114,6 +128,14 @@ cases =
     -- "the right of one at 9 and the left of the other at 10: no row; at 10 and 10: a row"
     ∷ Listed (shape 2 1 1 0) (box 0 0 9 5 (box 10 0 20 5 [])) [] 2
     ∷ Listed (shape 2 1 1 0) (box 0 0 10 5 (box 10 0 20 5 [])) (row 2 (0 ∷ 0 ∷ []) 0 ∷ []) 2
+    -- "As the right of a RECT at left 0, in a text otherwise sound: -0 and 07 give 9; 1000001 gives 10; 1000000 is read."
+    ∷ refused (textWith (45 ∷ 48 ∷ [])) 9
+    ∷ refused (textWith (48 ∷ 55 ∷ [])) 9
+    ∷ refused (textWith (49 ∷ 48 ∷ 48 ∷ 48 ∷ 48 ∷ 48 ∷ 49 ∷ [])) 10
+    ∷ Read (textWith (49 ∷ 48 ∷ 48 ∷ 48 ∷ 48 ∷ 48 ∷ 48 ∷ [])) (box 7 7 7 7 (pos 7 ∷ [])) (record { number = 0; shape = shape 2 1 0 0 }) (box 0 0 1000000 5 (pos 7 ∷ []))
+    -- "Empty text gives 9. A text without its last byte 10 gives 9."
+    ∷ refused [] 9
+    ∷ refused (PLAN ++ 50 ∷ 10 ∷ LAYER ++ 48 ∷ 10 ∷ LAYER ++ 48 ∷ []) 9
     -- "512 is a size, 513 gives 2": with no cells, the first passes check 2 and has cause 3
     ∷ Caused (shape 2 512 0 0) [] 3
     ∷ Caused (shape 2 513 0 0) [] 2

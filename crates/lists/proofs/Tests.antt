@@ -5,6 +5,7 @@ use mathlib.Core.Logic.{_⊎_, inl, inr}
 use Prim.Native.Nat.{ℕ, _+_, _≤_, _<_}
 use native.Mathlib.Omega.{arith}
 use lib.Dec.{T, leb, leb→le, nleb→lt}
+use borrow.Author.Tests.{leb-true, le-leb}
 use Rattle.lists.specs.Lists.{Tells}
 
 pub clash : {t : Bool} {X : Type 0} → t ≡ true → t ≡ false → X
@@ -43,6 +44,9 @@ fails n = record { if-true = λ e. clash e refl; if-false = λ e. n }
 
 pub tells : {P : Type 0} (t : Bool) → (t ≡ true → P) → (P → t ≡ true) → Tells P t
 tells t f g = record { if-true = f; if-false = λ e p. clash (g p) e }
+
+pub le-tells : (n m : ℕ) → Tells (n ≤ m) (leb n m)
+le-tells n m = tells (leb n m) (leb-true n m) (le-leb n m)
 
 -- ---- orders of numbers
 pub total : (m n : ℕ) → (m ≤ n) ⊎ (n < m)

@@ -6,9 +6,8 @@ use native.Mathlib.Omega.{arith}
 use lib.IntN.{ℤ}
 use lib.Dec.{leb}
 use lib.ListN.{length}
-use borrow.Author.Tests.{leb-true, le-leb}
 use Rattle.lists.specs.Lists.{Tells, same}
-use Rattle.lists.proofs.Tests.{tells}
+use Rattle.lists.proofs.Tests.{le-tells}
 use Rattle.lists.proofs.Numbers.{same-refl, same-tells}
 use Rattle.plan.specs.declared.Shape.{Shape}
 use Rattle.geometry.specs.declared.Rect.{Rect}
@@ -38,10 +37,6 @@ fresh-most : (s : Shape) (cells : List ℤ) (order : List ℕ) → freshCause s 
 unfolding freshCause
 fresh-most s cells order = or-else-most (planCause s cells) _ 5 (omega (arith, plan-most s cells)) (unless-most (same order (sweepOrder cells)) 5)
 
--- the whole run's test tells whether the rows fit
-fits : (n m : ℕ) → Tells (n ≤ m) (leb n m)
-fits n m = tells (leb n m) (leb-true n m) (le-leb n m)
-
 -- so each applies exactly where it should
 pub call-causes : (s : Shape) (cells : List ℤ) (order : List ℕ) (c : Cursor) (table : List ℕ) → length (s .sizes) ≡ 6 → CallCauses s cells order c table
 unfolding freshCause pageCause runCause
@@ -52,9 +47,9 @@ call-causes s cells order c table six = record {
   page = check-passed first 5 good;
   page-earlier = λ k p l. check-others first (named (resume s cells c)) 6 k p (λ e. omega arith);
   six = check-failed first 5 (fresh-most s cells order) good;
-  run = check-passed first 6 (λ z. fits n m);
+  run = check-passed first 6 (λ z. le-tells n m);
   run-earlier = λ k p l. check-others first (leb n m) 7 k p (λ e. omega arith);
-  seven = let i = check-failed first 6 (omega (arith, fresh-most s cells order)) (λ z. fits n m) in (λ e. let h = i .0 e in (h .0, omega (arith, h .1)), λ h. i .1 (h .0, λ l. omega (arith, h .1)));
+  seven = let i = check-failed first 6 (omega (arith, fresh-most s cells order)) (λ z. le-tells n m) in (λ e. let h = i .0 e in (h .0, omega (arith, h .1)), λ h. i .1 (h .0, λ l. omega (arith, h .1)));
   most = (fresh-most s cells order, or-else-most first _ 6 (omega (arith, fresh-most s cells order)) (unless-most (named (resume s cells c)) 6), or-else-most first _ 7 (omega (arith, fresh-most s cells order)) (unless-most (leb n m) 7));
 }
   where

@@ -7,17 +7,18 @@ use lib.ListN.{length, drop}
 use Rattle.decimal.specs.Stores.{Put}
 use Rattle.decimal.proofs.Stores.{put-start}
 use Rattle.plan.specs.declared.Shape.{Shape}
+use Rattle.plan.specs.Causes.{onCause}
 use Rattle.text.specs.declared.Reading.{Reading}
 use Rattle.text.specs.declared.Decision.{Decision}
-use Rattle.text.specs.Reader.{readCause, textShape, textCells, reading, filledOr, readAnswer, cellsAfter}
+use Rattle.text.specs.Reader.{readCause, textShape, textCells, noShape, readAnswer, cellsAfter}
 use Rattle.text.specs.Filling.{restCells, Decided}
 
 -- the number in an answer is its cause
-number-is : (cause : ℕ) (s : Shape) → reading cause s .number ≡ cause
+number-is : (cause : ℕ) (s : Shape) → onCause {A = Reading} cause (record { number = 0; shape = s }) (λ n. record { number = n; shape = noShape }) .number ≡ cause
 number-is zero s = refl
 number-is (suc cause) s = refl
 
-kept : (cause : ℕ) (new cells : List ℤ) → (cause ≡ 0 → ⊥) → cells ≡ filledOr cause new cells
+kept : (cause : ℕ) (new cells : List ℤ) → (cause ≡ 0 → ⊥) → cells ≡ onCause cause new (λ n. cells)
 kept zero new cells h = absurd (h refl)
 kept (suc cause) new cells h = refl
 
@@ -27,7 +28,7 @@ module _ (t : List ℕ) (cells : List ℤ) (d : Decision) (p : Decided t (length
 
   pub read-refused : (d .reading .number ≡ 0 → ⊥)
       → (d .reading ≡ readAnswer (length cells) t) × ((d .reading .number ≡ readCause (length cells) t) × (cells ≡ cellsAfter t cells))
-  read-refused h = (p .answer, (number, kept (readCause (length cells) t) (textCells t) cells (λ e. h (number ∙ e))))
+  read-refused h = (p .answer, (number, kept (readCause (length cells) t) _ cells (λ e. h (number ∙ e))))
 
   pub read-accepted : (last : List ℤ) (r : ℕ) → d .reading .number ≡ 0 → Put cells 0 (restCells (drop (d .next) t)) last r
       → (d .reading ≡ readAnswer (length cells) t) × ((d .reading .number ≡ readCause (length cells) t) × (last ≡ cellsAfter t cells))

@@ -1,27 +1,30 @@
 -- Plan texts are read back, only they are accepted, and "well formed" is what 01 says.
 use mathlib.Core.Path.{_≡_, refl, sym, ap, _∙_}
 use mathlib.Core.List.{List, [], _∷_}
-use mathlib.Core.Option.{Option, none, some}
+use mathlib.Core.Option.{Option, none, some, Option·some-injective}
+use mathlib.Core.Logic.{_↔_}
 use mathlib.Core.Bool.{Bool, true, false, _&&_}
-use Prim.Native.Nat.{ℕ, _≤_}
+use Prim.Native.Nat.{ℕ, _≤_, _<_}
 use native.Mathlib.Omega.{arith}
 use lib.Dec.{eqb, leb}
 use lib.IntN.{ℤ, pos, negsuc}
 use lib.ListN.{length, take}
-use borrow.Author.Tests.{eqb-true, le-leb, leb-true}
-use Rattle.lists.proofs.Tests.{clash, both}
+use lib.Seq.{take-append-seam, drop-append-seam}
+use borrow.Author.Tests.{eqb-true, le-leb, lt-leb, leb-true, leb-false}
+use Rattle.lists.proofs.Tests.{clash, both, le-tells}
 use Rattle.lists.specs.Lists.{padded}
 use Rattle.plan.specs.declared.Shape.{Shape}
 use Rattle.plan.specs.Causes.{unless, _orElse_}
 use Rattle.plan.specs.Plan.{planCause, Sound}
-use Rattle.plan.proofs.Plan.{checked}
+use Rattle.plan.proofs.Plan.{checked, unless-zero, plan-most, check-failed, check-others}
 use Rattle.text.specs.declared.Line.{Line}
 use Rattle.text.specs.declared.Line.the-variants.{Plan, Layer, Rectangle}
 use Rattle.text.specs.Lines.{spell}
 use Rattle.text.specs.Parsing.{linesOf, isSome, wellFormed}
 use Rattle.text.specs.Plans.{layerLines, planLines, textOf, sizesIn, cellsIn, shapeIn, counted, wellCounted, agrees}
 use Rattle.text.specs.Reader.{linesCause, readCause, textShape, textCells}
-use Rattle.text.specs.Theorems.{Formed, GivesBack, OfPlan, RoundTrip}
+use Rattle.text.specs.Theorems.{Formed, PlanText, GivesBack, OfPlan, Writes, RoundTrip}
+use Rattle.text.specs.Writer.{writeCause}
 use Rattle.text.proofs.Parsing.{lines-of-spelling, spelling-of-lines}
 use Rattle.text.proofs.Sound.{passed-sound}
 use Rattle.lists.proofs.Padding.{take-padded}
@@ -33,10 +36,15 @@ module _ (s : Shape) (plan : List ℤ) (sound : Sound s plan) where
   unfolding textOf
   lines-back = lines-of-spelling (planLines s plan) (plan-headed s plan sound) (plan-short s plan sound)
 
+  -- it has at most the cause 11
+  text-cause : (room : ℕ) → readCause room (textOf s plan) ≡ unless (leb (length plan) room) 11
+  unfolding readCause
+  text-cause room = rw (lines-back, plan-agrees s plan sound, plan-cells s plan sound)
+
   pub back : (cells : List ℤ) → length plan ≤ length cells → GivesBack s plan (textOf s plan) cells
-  unfolding readCause textShape textCells
+  unfolding textShape textCells
   back cells h =
-      let e : readCause (length cells) (textOf s plan) ≡ 0 = rw (lines-back, plan-agrees s plan sound, plan-cells s plan sound, le-leb (length plan) (length cells) h) in
+      let e : readCause (length cells) (textOf s plan) ≡ 0 = rw (text-cause (length cells), le-leb (length plan) (length cells) h) in
       let x : textShape (textOf s plan) ≡ s = rw lines-back (plan-shape s plan sound) in
       let y : textCells (textOf s plan) ≡ plan = rw lines-back (plan-cells s plan sound) in
       record { answer = rw (e, x); filled = rw (e, y) }
@@ -71,6 +79,7 @@ of-plan room t e = go (linesOf t) refl e
         record {
           text = rw q (spelling-of-lines t ls q .text ∙ ap spell (headed-lines ls x));
           sound = rw q (agrees-sound ls x);
+          four = rw q (checked (shapeIn ls) (cellsIn ls) (agrees-sound ls x) .whole);
           fits = rw q (leb-true (length (cellsIn ls)) room y);
         }
 
@@ -112,11 +121,102 @@ nine-only room t e = go (linesOf t) e
     go none k z = clash z refl
     go (some ls) k z = never (agrees ls) (leb (length (cellsIn ls)) room) k
 
+-- ---- the causes
+-- a text is not well formed, or is but is no plan's, or is a plan's
+pub data Verdict (room : ℕ) (t : List ℕ) : Type 0 where
+  not-formed : readCause room t ≡ 9 → (wellFormed t ≡ true → ⊥) → Verdict room t
+  no-plan : readCause room t ≡ 10 → wellFormed t ≡ true → (PlanText t → ⊥) → Verdict room t
+  of : (p : PlanText t) → Verdict room t
+
+verdict : (room : ℕ) (t : List ℕ) → Verdict room t
+unfolding readCause wellFormed textOf
+verdict room t = go (linesOf t) refl
+  where
+    some-lines : (ls : List Line) (a : Bool) → agrees ls ≡ a → linesOf t ≡ some ls → Verdict room t
+    some-lines ls true x q = of (record { shape = shapeIn ls; plan = cellsIn ls; sound = agrees-sound ls x; text = spelling-of-lines t ls q .text ∙ ap spell (headed-lines ls x) })
+    some-lines ls false x q =
+        no-plan (rw (q, x)) (rw q) (λ p.
+        let l : linesOf t ≡ some (planLines (p .shape) (p .plan)) = ap linesOf (p .text) ∙ lines-back (p .shape) (p .plan) (p .sound) in
+        let e : ls ≡ planLines (p .shape) (p .plan) = Option·some-injective ls (planLines (p .shape) (p .plan)) (sym q ∙ l) in
+        clash (plan-agrees (p .shape) (p .plan) (p .sound)) (ap agrees (sym e) ∙ x))
+
+    go : (o : Option (List Line)) → linesOf t ≡ o → Verdict room t
+    go none q = not-formed (rw q) (λ e. clash e (rw q))
+    go (some ls) q = some-lines ls (agrees ls) refl q
+
+-- the text of a plan has at most the cause 11
+plan-cause : (room : ℕ) (t : List ℕ) (p : PlanText t) → readCause room t ≡ unless (leb (length (p .plan)) room) 11
+plan-cause room t p = ap (readCause room) (p .text) ∙ text-cause (p .shape) (p .plan) (p .sound) room
+
+module _ (room : ℕ) (t : List ℕ) where
+  exactly-only : readCause room t ≡ 0 → (p : PlanText t) × (length (p .plan) ≤ room)
+  exactly-only e = go (verdict room t)
+    where
+      go : Verdict room t → (p : PlanText t) × (length (p .plan) ≤ room)
+      go (not-formed k x) = absurd (omega arith)
+      go (no-plan k f x) = absurd (omega arith)
+      go (of p) = (p, leb-true (length (p .plan)) room (unless-zero _ 10 (sym (plan-cause room t p) ∙ e)))
+
+  ten-only : readCause room t ≡ 10 → (wellFormed t ≡ true) × (PlanText t → ⊥)
+  ten-only e = go (verdict room t)
+    where
+      never : (b : Bool) → _≡_ {A = ℕ} (unless b 11) 10 → ⊥
+      never true k = omega arith
+      never false k = omega arith
+
+      go : Verdict room t → (wellFormed t ≡ true) × (PlanText t → ⊥)
+      go (not-formed k x) = absurd (omega arith)
+      go (no-plan k f x) = (f, x)
+      go (of p) = absurd (never (leb (length (p .plan)) room) (sym (plan-cause room t p) ∙ e))
+
+  ten-all : (wellFormed t ≡ true) → (PlanText t → ⊥) → readCause room t ≡ 10
+  ten-all f n = go (verdict room t)
+    where
+      go : Verdict room t → readCause room t ≡ 10
+      go (not-formed k x) = absurd (x f)
+      go (no-plan k w x) = k
+      go (of p) = absurd (n p)
+
+  eleven-only : readCause room t ≡ 11 → (p : PlanText t) × (room < length (p .plan))
+  eleven-only e = go (verdict room t)
+    where
+      short : (b : Bool) (p : PlanText t) → leb (length (p .plan)) room ≡ b → _≡_ {A = ℕ} (unless b 11) 11 → room < length (p .plan)
+      short true p q k = absurd (omega arith)
+      short false p q k = leb-false (length (p .plan)) room q
+
+      go : Verdict room t → (p : PlanText t) × (room < length (p .plan))
+      go (not-formed k x) = absurd (omega arith)
+      go (no-plan k f x) = absurd (omega arith)
+      go (of p) = (p, short (leb (length (p .plan)) room) p refl (sym (plan-cause room t p) ∙ e))
+
+-- ---- the writer
+module _ (s : Shape) (plan : List ℤ) where
+  writes : (buf : List ℕ) → Sound s plan → length (textOf s plan) ≤ length buf → Writes s plan buf
+  unfolding writeCause
+  writes buf sound h =
+      let e : writeCause s plan (length buf) ≡ 0 = rw (sound .passed, le-leb (length (textOf s plan)) (length buf) h) in
+      record { answer = rw e; text = rw e (take-append-seam (textOf s plan) _); rest = rw e (drop-append-seam (textOf s plan) _) }
+
+  twelve : (room : ℕ) → (writeCause s plan room ≡ 12) ↔ ((planCause s plan ≡ 0) × (room < length (textOf s plan)))
+  unfolding writeCause
+  twelve room =
+      let i = check-failed (planCause s plan) 11 (omega (arith, plan-most s plan)) (λ z. le-tells (length (textOf s plan)) room) in
+      (λ e. let h = i .0 e in (h .0, omega (arith, h .1)), λ h. i .1 (h .0, λ l. omega (arith, h .1)))
+
+  earlier : (room n : ℕ) → 0 < n → n < 12 → (writeCause s plan room ≡ n) ↔ (planCause s plan ≡ n)
+  unfolding writeCause
+  earlier room n p l = check-others (planCause s plan) (leb (length (textOf s plan)) room) 12 n p (λ e. omega arith)
+
 pub round-trip : RoundTrip
-round-trip =
-    record {
-      back = λ s plan cells sound h. back s plan sound cells h;
-      only = of-plan;
-      formed = λ t. (formed-only t, formed-all t);
-      nine = λ room t. (nine-only room t, nine-all room t);
-    }
+round-trip = record {
+  exactly = λ room t. (exactly-only room t, λ h. plan-cause room t (h .0) ∙ rw (le-leb (length (h .0 .plan)) room (h .1)));
+  written = writes;
+  back = λ s plan cells sound h. back s plan sound cells h;
+  only = of-plan;
+  formed = λ t. (formed-only t, formed-all t);
+  nine = λ room t. (nine-only room t, nine-all room t);
+  ten = λ room t. (ten-only room t, λ h. ten-all room t (h .0) (h .1));
+  eleven = λ room t. (eleven-only room t, λ h. plan-cause room t (h .0) ∙ rw (lt-leb (length (h .0 .plan)) room (h .1)));
+  twelve = twelve;
+  earlier = earlier;
+}

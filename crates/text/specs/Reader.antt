@@ -6,7 +6,7 @@ use lib.Dec.{leb}
 use lib.IntN.{ℤ}
 use lib.ListN.{length, drop}
 use Rattle.plan.specs.declared.Shape.{Shape}
-use Rattle.plan.specs.Causes.{unless, _orElse_}
+use Rattle.plan.specs.Causes.{unless, _orElse_, onCause}
 use Rattle.text.specs.declared.Reading.{Reading}
 use Rattle.text.specs.declared.Line.{Line}
 use Rattle.text.specs.Parsing.{linesOf}
@@ -38,20 +38,10 @@ textCells t = cellsIn (linesOr (linesOf t))
 abbrev pub noShape : Shape
 noShape = record { k = 0; sizes = 0 ∷ 0 ∷ 0 ∷ 0 ∷ 0 ∷ 0 ∷ [] }
 
--- 01: "A refusal returns its number and 0 for all else"
-abbrev pub reading : ℕ → Shape → Reading
-reading zero s = record { number = 0; shape = s }
-reading (suc cause) s = record { number = suc cause; shape = noShape }
-
--- what the reader answers where `room` cells are lent
+-- what the reader answers where `room` cells are lent. 01: "returns k and the sizes"; "A refusal returns its number and 0 for all else"
 abbrev pub readAnswer : ℕ → List ℕ → Reading
-readAnswer room t = reading (readCause room t) (textShape t)
+readAnswer room t = onCause (readCause room t) (record { number = 0; shape = textShape t }) (λ n. record { number = n; shape = noShape })
 
--- 01: "fills the first 4n cells, keeps the others"; a refusal keeps all
-abbrev pub filledOr : ℕ → List ℤ → List ℤ → List ℤ
-filledOr zero new cells = new ++ drop (length new) cells
-filledOr (suc cause) new cells = cells
-
--- the lent cells afterwards
+-- the lent cells afterwards. 01: "fills the first 4n cells, keeps the others"; a refusal keeps all
 abbrev pub cellsAfter : List ℕ → List ℤ → List ℤ
-cellsAfter t cells = filledOr (readCause (length cells) t) (textCells t) cells
+cellsAfter t cells = onCause (readCause (length cells) t) (textCells t ++ drop (length (textCells t)) cells) (λ n. cells)

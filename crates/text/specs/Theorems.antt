@@ -3,15 +3,18 @@ use mathlib.Core.Path.{_≡_}
 use mathlib.Core.List.{List, _++_}
 use mathlib.Core.Bool.{true}
 use mathlib.Core.Logic.{_↔_}
-use Prim.Native.Nat.{ℕ, _≤_}
+use Prim.Native.Nat.{ℕ, _*_, _≤_, _<_}
 use lib.IntN.{ℤ}
-use lib.ListN.{length, drop}
+use lib.ListN.{length, take, drop}
+use Rattle.lists.specs.Lists.{sum}
 use Rattle.plan.specs.declared.Shape.{Shape}
-use Rattle.plan.specs.Plan.{Sound}
+use Rattle.plan.specs.Plan.{planCause, Sound}
 use Rattle.text.specs.declared.Line.{Line}
 use Rattle.text.specs.Lines.{spell, headed, allShort}
 use Rattle.text.specs.Parsing.{wellFormed}
+use Rattle.text.specs.declared.Writing.the-variants.{Written}
 use Rattle.text.specs.Plans.{textOf}
+use Rattle.text.specs.Writer.{writeCause, writeAnswer, bufferAfter}
 use Rattle.text.specs.Reader.{readCause, textShape, textCells, readAnswer, cellsAfter}
 
 -- a text is the bytes of a PLAN line followed by LAYER and RECT lines, with numbers of at most seven digits
@@ -21,23 +24,42 @@ pub record Formed (t : List ℕ) : Type 0 where
   pub short : allShort lines ≡ true
   pub text : t ≡ spell lines
 
+-- a text is that of a sound plan
+pub record PlanText (t : List ℕ) : Type 0 where
+  pub shape : Shape
+  pub plan : List ℤ
+  pub sound : Sound shape plan
+  pub text : t ≡ textOf shape plan
+
 -- reading a text gives exactly this plan back, in these cells
 pub record GivesBack (s : Shape) (plan : List ℤ) (t : List ℕ) (cells : List ℤ) : Type 0 where
   pub answer : readAnswer (length cells) t ≡ record { number = 0; shape = s }
   pub filled : cellsAfter t cells ≡ plan ++ drop (length plan) cells
 
--- a text is, byte for byte, the text written for the sound plan that it gives, which fits into the cells
+-- a text is, byte for byte, the text of the sound plan that it gives; this has 4n cells, and they fit
 pub record OfPlan (room : ℕ) (t : List ℕ) : Type 0 where
   pub text : t ≡ textOf (textShape t) (textCells t)
   pub sound : Sound (textShape t) (textCells t)
+  pub four : length (textCells t) ≡ 4 * sum (textShape t .sizes)
   pub fits : length (textCells t) ≤ room
 
+-- the writer puts the text of a sound plan at the start of the buffer
+pub record Writes (s : Shape) (plan : List ℤ) (buf : List ℕ) : Type 0 where
+  pub answer : writeAnswer s plan (length buf) ≡ Written (length (textOf s plan))
+  pub text : take (length (textOf s plan)) (bufferAfter s plan buf) ≡ textOf s plan
+  pub rest : drop (length (textOf s plan)) (bufferAfter s plan buf) ≡ drop (length (textOf s plan)) buf
+
 pub record RoundTrip : Type 0 where
-  -- the text of a sound plan is accepted into any buffer of at least 4n cells, and gives that plan back
+  -- demand 2: "A plan text is accepted into enough cells exactly when it is the text written for some plan, and gives that plan back."
+  pub exactly : (room : ℕ) (t : List ℕ) → (readCause room t ≡ 0) ↔ ((p : PlanText t) × (length (p .plan) ≤ room))
+  pub written : (s : Shape) (plan : List ℤ) (buf : List ℕ) → Sound s plan → length (textOf s plan) ≤ length buf → Writes s plan buf
   pub back : (s : Shape) (plan cells : List ℤ) → Sound s plan → length plan ≤ length cells → GivesBack s plan (textOf s plan) cells
-  -- only such texts are accepted
   pub only : (room : ℕ) (t : List ℕ) → readCause room t ≡ 0 → OfPlan room t
   -- "well formed" is what 01 says
   pub formed : (t : List ℕ) → (wellFormed t ≡ true) ↔ Formed t
-  -- 9 is told exactly where a text is not well formed
+  -- 9, 10, 11 and 12 are told in exactly the stated case; the writer's others are those of the plan
   pub nine : (room : ℕ) (t : List ℕ) → (readCause room t ≡ 9) ↔ (wellFormed t ≡ true → ⊥)
+  pub ten : (room : ℕ) (t : List ℕ) → (readCause room t ≡ 10) ↔ ((wellFormed t ≡ true) × (PlanText t → ⊥))
+  pub eleven : (room : ℕ) (t : List ℕ) → (readCause room t ≡ 11) ↔ ((p : PlanText t) × (room < length (p .plan)))
+  pub twelve : (s : Shape) (plan : List ℤ) (room : ℕ) → (writeCause s plan room ≡ 12) ↔ ((planCause s plan ≡ 0) × (room < length (textOf s plan)))
+  pub earlier : (s : Shape) (plan : List ℤ) (room n : ℕ) → 0 < n → n < 12 → (writeCause s plan room ≡ n) ↔ (planCause s plan ≡ n)
