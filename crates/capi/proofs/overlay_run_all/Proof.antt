@@ -1,0 +1,29 @@
+-- `capi::overlay_run_all`: number and cells are those of the values.
+use borrow.Author.Needs.{needs}
+use mathlib.Core.Path.{ap, _∙_}
+use Rattle.paging.specs.Calls.{RunValues}
+use Rattle.capi.specs.Cells.{runCells}
+use Rattle.capi.proofs.overlay_run_all.Statement.{statement}
+use Rattle.capi.proofs.overlay_run_all.Tie as tie
+
+run-all-requires : tie.Need-run-all-requires
+run-all-requires c κs = search needs
+
+run-cells-requires : tie.Need-run-cells-requires
+run-cells-requires c κs = search needs
+
+run-number-requires : tie.Need-run-number-requires
+run-number-requires c κs = search needs
+
+same-length : tie.Need-same-length
+same-length c = search needs
+
+returns : tie.Need-returns
+returns c =
+    let run = c .before .before .before .before .run-all .ensures in
+    (c .run-number .ensures ∙ ap (λ (v : RunValues). v .number) (run .1 .0), (c .before .run-cells .ensures ∙ ap runCells (run .1 .0), run .1 .1))
+
+pub overlay-run-all-spec : {M : Type 1} → statement M
+overlay-run-all-spec =
+    tie.close
+    (tie.spec run-all-requires run-cells-requires run-number-requires same-length returns)

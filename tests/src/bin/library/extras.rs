@@ -1,0 +1,88 @@
+//! The calls of the C interface that `Overlay` does not have, and cells that are no ticket.
+
+use crate::ffi::{cells_of, fetch_page, is_order, plan_cause, Library};
+use overlay_tests::call::{cells_u32, Plan};
+use overlay_tests::overlay::{Overlay, Ticket};
+use overlay_tests::reference::{order_fault, plan_fault};
+use overlay_tests::seeds::{order, other_orders, tickets, Seeds, STYLES};
+
+/// How many plans are drawn.
+const PLANS: u64 = 1000;
+
+/// Where the seeds start.
+const SEED: u64 = 0x9E37_79B9_7F4A_7C15;
+
+/// Two answers are the same, or the first difference in words.
+fn expect<T: PartialEq + std::fmt::Debug>(
+    name: &str,
+    plan: &Plan,
+    library: T,
+    reference: T,
+) -> Result<u64, String> {
+    if library == reference {
+        return Ok(1);
+    }
+    Err(format!("DIFFERENCE in {name}\n{plan:?}\nlibrary:   {library:?}\nreference: {reference:?}"))
+}
+
+/// Causes 1 to 4, of a sound plan and of damaged ones.
+fn causes(seeds: &mut Seeds, plan: &Plan) -> Result<u64, String> {
+    let mut cases = expect("plan cause", plan, plan_cause(&plan.shape, &plan.cells), 0)?;
+    for way in 0..8 {
+        let mut unsound = plan.clone();
+        seeds.damage_plan(&mut unsound, way);
+        let (shape, cells) = (&unsound.shape, &unsound.cells);
+        cases += expect("plan cause", &unsound, plan_cause(shape, cells), plan_fault(shape, cells))?;
+    }
+    Ok(cases)
+}
+
+/// The good order of a sound plan, and others.
+fn orders(seeds: &mut Seeds, plan: &Plan) -> Result<u64, String> {
+    let good = order(plan);
+    let mut cases = expect("is order", plan, is_order(&plan.cells, &good), true)?;
+    for other in other_orders(seeds, &good) {
+        let fits = order_fault(&plan.shape, &plan.cells, &other) == 0;
+        cases += expect("is order", plan, is_order(&plan.cells, &other), fits)?;
+    }
+    Ok(cases)
+}
+
+/// Cells whose flag is neither 0 nor 1 are refused as 6, and stay what they were, as the table does.
+fn flags(seeds: &mut Seeds, plan: &Plan) -> Result<u64, String> {
+    let good = order(plan);
+    let first = tickets(plan).first().copied().unwrap_or(Ticket::ENDED);
+    let mut cases = 0;
+    for ticket in [first, Ticket::ENDED, seeds.any_ticket()] {
+        for flag in [2, 3, 256, u32::MAX] {
+            let mut given = cells_of(&ticket);
+            given[0] = flag;
+            let (mut cursor, mut table) = (given, cells_u32(24));
+            let (number, answer) = fetch_page(&plan.shape, &plan.cells, &good, &mut cursor, 9, &mut table);
+            let told = (number, answer, cursor, table);
+            cases += expect("flags", plan, told, (6, [0; 4], given, cells_u32(24)))?;
+        }
+    }
+    Ok(cases)
+}
+
+/// The order made for a plan is told to be its order.
+fn made_orders(plan: &Plan) -> Result<u64, String> {
+    let mut made = cells_u32(plan.cells.len() / 4);
+    let number = Library.make_order(&plan.shape, &plan.cells, &mut made);
+    expect("orders made", plan, (number, is_order(&plan.cells, &made)), (0, true))
+}
+
+/// All of them on every plan: how many cases, or the first difference.
+pub fn compare_extras() -> Result<u64, String> {
+    let mut seeds = Seeds(SEED);
+    let mut cases = 0;
+    for round in 0..PLANS {
+        let plan = seeds.plan(2 + (round % 5) as usize, round % STYLES);
+        cases += causes(&mut seeds, &plan)?;
+        cases += orders(&mut seeds, &plan)?;
+        cases += flags(&mut seeds, &plan)?;
+        cases += made_orders(&plan)?;
+    }
+    Ok(cases)
+}

@@ -1,0 +1,284 @@
+//! The library under test through its C interface (include/overlay.h), behind safe functions.
+
+use overlay_tests::overlay::{Overlay, Page, Reading, RowTold, Run, Shape, Stop, Ticket, Writing};
+
+#[link(name = "capi", kind = "static")]
+extern "C" {
+    fn overlay_plan_cause(k: u32, sizes: *const u32, cells: *const i32, cells_length: usize) -> u32;
+    fn overlay_make_order(
+        k: u32,
+        sizes: *const u32,
+        cells: *const i32,
+        cells_length: usize,
+        order: *mut u32,
+        order_length: usize,
+    ) -> u32;
+    fn overlay_is_order(
+        cells: *const i32,
+        cells_length: usize,
+        order: *const u32,
+        order_length: usize,
+    ) -> bool;
+    fn overlay_row(
+        k: u32,
+        sizes: *const u32,
+        cells: *const i32,
+        cells_length: usize,
+        places: *const u32,
+        places_length: usize,
+        answer: *mut u64,
+    ) -> u32;
+    fn overlay_fresh_cursor(
+        k: u32,
+        sizes: *const u32,
+        cells: *const i32,
+        cells_length: usize,
+        order: *const u32,
+        order_length: usize,
+        cursor: *mut u32,
+    ) -> u32;
+    fn overlay_fetch_page(
+        k: u32,
+        sizes: *const u32,
+        cells: *const i32,
+        cells_length: usize,
+        order: *const u32,
+        order_length: usize,
+        cursor: *mut u32,
+        budget: u32,
+        table: *mut u32,
+        table_length: usize,
+        answer: *mut u64,
+    ) -> u32;
+    fn overlay_run_all(
+        k: u32,
+        sizes: *const u32,
+        cells: *const i32,
+        cells_length: usize,
+        order: *const u32,
+        order_length: usize,
+        table: *mut u32,
+        table_length: usize,
+        answer: *mut u64,
+    ) -> u32;
+    fn overlay_read_text(
+        text: *const u8,
+        text_length: usize,
+        cells: *mut i32,
+        cells_length: usize,
+        k: *mut u32,
+        sizes: *mut u32,
+    ) -> u32;
+    fn overlay_write_text(
+        k: u32,
+        sizes: *const u32,
+        cells: *const i32,
+        cells_length: usize,
+        text: *mut u8,
+        text_length: usize,
+        size: *mut usize,
+    ) -> u32;
+}
+
+/// A ticket's cells.
+pub type Cells = [u32; 10];
+
+/// What answers are filled with before a call, so that a cell left unwritten shows.
+const UNWRITTEN: u64 = 0xA5A5_A5A5_A5A5_A5A5;
+
+/// The cells of a ticket.
+pub fn cells_of(ticket: &Ticket) -> Cells {
+    let [a, b, c, d, e] = ticket.chosen;
+    let ended = u32::from(ticket.ended);
+    [ended, ticket.layer, ticket.place, ticket.filled, a, b, c, d, e, ticket.next]
+}
+
+/// The ticket in cells.
+fn ticket_in(cells: &Cells) -> Ticket {
+    let [ended, layer, place, filled, a, b, c, d, e, next] = *cells;
+    assert!(ended <= 1, "the flag of a ticket is {ended}");
+    Ticket { ended: ended == 1, layer, place, filled, chosen: [a, b, c, d, e], next }
+}
+
+/// A number that fits 32 bits.
+fn small(cell: u64) -> u32 {
+    u32::try_from(cell).expect("an answer of 32 bits")
+}
+
+/// The stop for a number of a cause and the first cell of an answer.
+fn stop_of(number: u32, code: u64) -> Stop {
+    match (number, code) {
+        (0, 1) => Stop::Ended,
+        (0, 2) => Stop::Full,
+        (0, 3) => Stop::Spent,
+        (1.., 0) => Stop::Refused(number),
+        _ => panic!("number {number} with stop {code}"),
+    }
+}
+
+/// The first of the causes 1 to 4 that applies to a plan.
+pub fn plan_cause(shape: &Shape, cells: &[i32]) -> u32 {
+    // SAFETY: every pointer comes from a reference, with its length.
+    unsafe { overlay_plan_cause(shape.k, shape.sizes.as_ptr(), cells.as_ptr(), cells.len()) }
+}
+
+/// Whether a buffer holds the sweep order of the cells.
+pub fn is_order(cells: &[i32], order: &[u32]) -> bool {
+    // SAFETY: every pointer comes from a reference, with its length.
+    unsafe { overlay_is_order(cells.as_ptr(), cells.len(), order.as_ptr(), order.len()) }
+}
+
+/// The page call on a ticket's cells: the number and the answer.
+pub fn fetch_page(
+    shape: &Shape,
+    cells: &[i32],
+    order: &[u32],
+    cursor: &mut Cells,
+    budget: u32,
+    table: &mut [u32],
+) -> (u32, [u64; 4]) {
+    let mut answer = [UNWRITTEN; 4];
+    // SAFETY: every pointer comes from a reference, with its length; those written to are exclusive.
+    let number = unsafe {
+        overlay_fetch_page(
+            shape.k,
+            shape.sizes.as_ptr(),
+            cells.as_ptr(),
+            cells.len(),
+            order.as_ptr(),
+            order.len(),
+            cursor.as_mut_ptr(),
+            budget,
+            table.as_mut_ptr(),
+            table.len(),
+            answer.as_mut_ptr(),
+        )
+    };
+    (number, answer)
+}
+
+/// The library under test.
+pub struct Library;
+
+impl Overlay for Library {
+    fn make_order(&self, shape: &Shape, cells: &[i32], order: &mut [u32]) -> u32 {
+        // SAFETY: every pointer comes from a reference, with its length; the one written to is exclusive.
+        unsafe {
+            overlay_make_order(
+                shape.k,
+                shape.sizes.as_ptr(),
+                cells.as_ptr(),
+                cells.len(),
+                order.as_mut_ptr(),
+                order.len(),
+            )
+        }
+    }
+
+    fn row(&self, shape: &Shape, cells: &[i32], row: &[u32]) -> RowTold {
+        let mut answer = [UNWRITTEN; 2];
+        // SAFETY: every pointer comes from a reference, with its length; the one written to is exclusive.
+        let number = unsafe {
+            overlay_row(
+                shape.k,
+                shape.sizes.as_ptr(),
+                cells.as_ptr(),
+                cells.len(),
+                row.as_ptr(),
+                row.len(),
+                answer.as_mut_ptr(),
+            )
+        };
+        RowTold { number, layer: small(answer[0]), area: answer[1] }
+    }
+
+    fn fresh(&self, shape: &Shape, cells: &[i32], order: &[u32]) -> (u32, Ticket) {
+        let mut cursor = [UNWRITTEN as u32; 10];
+        // SAFETY: every pointer comes from a reference, with its length; the one written to is exclusive.
+        let number = unsafe {
+            overlay_fresh_cursor(
+                shape.k,
+                shape.sizes.as_ptr(),
+                cells.as_ptr(),
+                cells.len(),
+                order.as_ptr(),
+                order.len(),
+                cursor.as_mut_ptr(),
+            )
+        };
+        (number, ticket_in(&cursor))
+    }
+
+    fn page(
+        &self,
+        shape: &Shape,
+        cells: &[i32],
+        order: &[u32],
+        ticket: &Ticket,
+        budget: u32,
+        table: &mut [u32],
+    ) -> Page {
+        let mut cursor = cells_of(ticket);
+        let (number, answer) = fetch_page(shape, cells, order, &mut cursor, budget, table);
+        let [code, rows, trials, area] = answer;
+        Page {
+            stop: stop_of(number, code),
+            rows: small(rows),
+            trials: small(trials),
+            area,
+            ticket: ticket_in(&cursor),
+        }
+    }
+
+    fn run(&self, shape: &Shape, cells: &[i32], order: &[u32], table: &mut [u32]) -> Run {
+        let mut answer = [UNWRITTEN; 3];
+        // SAFETY: every pointer comes from a reference, with its length; those written to are exclusive.
+        let number = unsafe {
+            overlay_run_all(
+                shape.k,
+                shape.sizes.as_ptr(),
+                cells.as_ptr(),
+                cells.len(),
+                order.as_ptr(),
+                order.len(),
+                table.as_mut_ptr(),
+                table.len(),
+                answer.as_mut_ptr(),
+            )
+        };
+        Run { number, rows: small(answer[0]), trials: answer[1], area: answer[2] }
+    }
+
+    fn read(&self, text: &[u8], cells: &mut [i32]) -> Reading {
+        let mut shape = Shape { k: UNWRITTEN as u32, sizes: [UNWRITTEN as u32; 6] };
+        // SAFETY: every pointer comes from a reference, with its length; those written to are exclusive.
+        let number = unsafe {
+            overlay_read_text(
+                text.as_ptr(),
+                text.len(),
+                cells.as_mut_ptr(),
+                cells.len(),
+                &mut shape.k,
+                shape.sizes.as_mut_ptr(),
+            )
+        };
+        Reading { number, shape }
+    }
+
+    fn write(&self, shape: &Shape, cells: &[i32], text: &mut [u8]) -> Writing {
+        let mut length = UNWRITTEN as usize;
+        // SAFETY: every pointer comes from a reference, with its length; those written to are exclusive.
+        let number = unsafe {
+            overlay_write_text(
+                shape.k,
+                shape.sizes.as_ptr(),
+                cells.as_ptr(),
+                cells.len(),
+                text.as_mut_ptr(),
+                text.len(),
+                &mut length,
+            )
+        };
+        Writing { number, length }
+    }
+}

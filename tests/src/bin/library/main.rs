@@ -1,0 +1,25 @@
+//! Compares the library under test with the reference. The last line is `N cases, 0 differences`.
+
+mod extras;
+mod ffi;
+
+use extras::compare_extras;
+use ffi::Library;
+use overlay_tests::compare::compare;
+use overlay_tests::reference::Reference;
+use std::process::exit;
+
+/// Shows the first difference and stops with an error.
+fn stop(text: &str, cases: u64) -> ! {
+    println!("{text}\n{cases} cases, 1 difference");
+    exit(1);
+}
+
+/// The seven calls first, then what only the C interface has.
+fn main() {
+    let mut tally = compare(&Library, &Reference).unwrap_or_else(|found| stop(&found.text, found.cases));
+    let extras = compare_extras().unwrap_or_else(|text| stop(&text, tally.cases()));
+    tally.add("C interface alone", extras);
+    print!("{tally}");
+    println!("{} cases, 0 differences", tally.cases());
+}

@@ -1,0 +1,872 @@
+//! Puts thousands of seeded calls to two overlays and compares answers and all lent buffers.
+
+use crate::call::{ask, bytes, cells_i32, cells_u32, same, show, Answer, Call, Plan};
+use crate::overlay::{Overlay, Page, Stop, Ticket};
+use crate::reference::{count_rows, join, layers_of};
+use crate::seeds::{
+    equal_plan, length, order, other_orders, plan_d, plan_from, shape_of, spell, text, tickets, Seeds, STYLES,
+};
+use std::fmt;
+
+/// How many rounds of small plans are compared.
+const ROUNDS: u64 = 1000;
+
+/// Where the seeds start.
+const SEED: u64 = 0x2545_F491_4F6C_DD1D;
+
+/// How many cases of each kind were compared.
+#[derive(Default)]
+pub struct Tally(Vec<(&'static str, u64)>);
+
+/// The first case in which two overlays differ.
+pub struct Difference {
+    pub cases: u64,
+    pub kind: &'static str,
+    pub text: String,
+}
+
+/// A comparison goes on, or stops at a difference.
+type Outcome = Result<(), Difference>;
+
+impl Tally {
+    /// Counts cases of a kind.
+    pub fn add(&mut self, kind: &'static str, cases: u64) {
+        match self.0.iter_mut().find(|(name, _)| *name == kind) {
+            Some((_, count)) => *count += cases,
+            None => self.0.push((kind, cases)),
+        }
+    }
+
+    /// All cases so far.
+    pub fn cases(&self) -> u64 {
+        self.0.iter().map(|(_, count)| count).sum()
+    }
+}
+
+impl fmt::Display for Tally {
+    /// One line per kind, and the sum last.
+    fn fmt(&self, f: &mut fmt::Formatter) -> fmt::Result {
+        for (kind, count) in &self.0 {
+            writeln!(f, "{kind}: {count}")?;
+        }
+        writeln!(f, "compared {} cases", self.cases())
+    }
+}
+
+/// Two overlays, the seeds, and the count so far.
+struct Bench<'a> {
+    left: &'a dyn Overlay,
+    right: &'a dyn Overlay,
+    seeds: Seeds,
+    tally: Tally,
+}
+
+/// Compares two overlays on every kind of case.
+pub fn compare(left: &dyn Overlay, right: &dyn Overlay) -> Result<Tally, Difference> {
+    let mut bench = Bench { left, right, seeds: Seeds(SEED), tally: Tally::default() };
+    bench.ground()?;
+    for round in 0..ROUNDS {
+        bench.round(round)?;
+        bench.fixed(round)?;
+    }
+    bench.large()?;
+    Ok(bench.tally)
+}
+
+// ---------------------------------------------------------------- one case
+
+impl Bench<'_> {
+    /// Puts one call to both and compares the whole of it; hands back the right answer.
+    fn ask(&mut self, kind: &'static str, call: Call) -> Result<Answer, Difference> {
+        let (mut ours, mut theirs) = (call.clone(), call.clone());
+        let (left, right) = (ask(&mut ours, self.left), ask(&mut theirs, self.right));
+        self.tally.add(kind, 1);
+        if same((&left, &ours), (&right, &theirs)) {
+            return Ok(right);
+        }
+        let cases = self.tally.cases();
+        let head = format!("DIFFERENCE in {kind}, case {cases}\n");
+        Err(Difference { cases, kind, text: head + &show(&call, (&left, &ours), (&right, &theirs)) })
+    }
+
+    /// One order maker call.
+    fn ask_order(&mut self, kind: &'static str, plan: &Plan, length: usize) -> Outcome {
+        self.ask(kind, Call::MakeOrder { plan: plan.clone(), order: cells_u32(length) }).map(drop)
+    }
+
+    /// One row call.
+    fn ask_row(&mut self, kind: &'static str, plan: &Plan, row: &[u32]) -> Outcome {
+        self.ask(kind, Call::Row { plan: plan.clone(), row: row.to_vec() }).map(drop)
+    }
+
+    /// One fresh-ticket call, with its ticket.
+    fn ask_fresh(&mut self, kind: &'static str, plan: &Plan, order: &[u32]) -> Result<Ticket, Difference> {
+        match self.ask(kind, Call::Fresh { plan: plan.clone(), order: order.to_vec() })? {
+            Answer::Fresh(_, ticket) => Ok(ticket),
+            _ => unreachable!("a fresh-ticket call gives a fresh ticket"),
+        }
+    }
+
+    /// One page call, with its page.
+    fn ask_page(
+        &mut self,
+        kind: &'static str,
+        plan: &Plan,
+        order: &[u32],
+        ticket: &Ticket,
+        limits: (u32, usize),
+    ) -> Result<Page, Difference> {
+        let (budget, table) = (limits.0, cells_u32(limits.1));
+        let call = Call::Page { plan: plan.clone(), order: order.to_vec(), ticket: *ticket, budget, table };
+        match self.ask(kind, call)? {
+            Answer::Page(page) => Ok(page),
+            _ => unreachable!("a page call gives a page"),
+        }
+    }
+
+    /// One whole run.
+    fn ask_run(&mut self, kind: &'static str, plan: &Plan, order: &[u32], table: usize) -> Outcome {
+        let call = Call::Run { plan: plan.clone(), order: order.to_vec(), table: cells_u32(table) };
+        self.ask(kind, call).map(drop)
+    }
+
+    /// One reading.
+    fn ask_read(&mut self, kind: &'static str, text: &[u8], cells: usize) -> Outcome {
+        self.ask(kind, Call::Read { text: text.to_vec(), cells: cells_i32(cells) }).map(drop)
+    }
+
+    /// One writing.
+    fn ask_write(&mut self, kind: &'static str, plan: &Plan, buffer: usize) -> Outcome {
+        self.ask(kind, Call::Write { plan: plan.clone(), text: bytes(buffer) }).map(drop)
+    }
+
+    /// A random budget and a random length of a table.
+    fn limits(&mut self, plan: &Plan, length: u64) -> (u32, usize) {
+        (self.seeds.budget(length), self.seeds.table_length(plan.shape.k as usize))
+    }
+}
+
+// ---------------------------------------------------------------- rounds of small plans
+
+impl Bench<'_> {
+    /// Every kind once, on one small plan; k and style go round.
+    fn round(&mut self, round: u64) -> Outcome {
+        let k = 2 + (round % 5) as usize;
+        let plan = self.seeds.plan(k, round % STYLES);
+        if round % 9 == 8 {
+            self.middle_plan(k, (round / 9) % STYLES)?;
+        }
+        self.order_maker(&plan)?;
+        self.orders(&plan)?;
+        self.row_calls(&plan)?;
+        self.paging(&plan)?;
+        self.tickets(&plan)?;
+        self.whole_runs(&plan)?;
+        self.texts_written(&plan)?;
+        self.texts_read(&plan)?;
+        self.texts_damaged(&plan)?;
+        self.unsound_plans(&plan)
+    }
+
+    /// Pages, tickets and runs on a plan of some more rectangles.
+    fn middle_plan(&mut self, k: usize, style: u64) -> Outcome {
+        let most = [120, 24, 10, 7, 5][k - 2];
+        let sizes: Vec<u32> = (0..k).map(|_| 1 + self.seeds.below(most) as u32).collect();
+        let plan = self.seeds.plan_of(&sizes, style);
+        self.order_maker(&plan)?;
+        self.paging(&plan)?;
+        self.tickets(&plan)?;
+        self.whole_runs(&plan)
+    }
+
+    /// Order buffers of n cells, and of others.
+    fn order_maker(&mut self, plan: &Plan) -> Outcome {
+        let n = plan.cells.len() / 4;
+        for length in [n, n + 1, n.saturating_sub(1), 0, 4 * n, n + 512] {
+            self.ask_order("order maker", plan, length)?;
+        }
+        Ok(())
+    }
+
+    /// Good, damaged, short and long orders, brought to every call that takes one.
+    fn orders(&mut self, plan: &Plan) -> Outcome {
+        let good = order(plan);
+        let first = self.ask_fresh("fresh tickets", plan, &good)?;
+        for other in other_orders(&mut self.seeds, &good) {
+            self.ask_fresh("orders", plan, &other)?;
+            let limits = self.limits(plan, 20);
+            let ticket = if self.seeds.once_in(3) { self.seeds.any_ticket() } else { first };
+            self.ask_page("orders", plan, &other, &ticket, limits)?;
+            self.ask_run("orders", plan, &other, limits.1)?;
+        }
+        Ok(())
+    }
+
+    /// Rows, tuples that are none, places outside, and lengths other than k.
+    fn row_calls(&mut self, plan: &Plan) -> Outcome {
+        let k = plan.shape.k as usize;
+        for _ in 0..8 {
+            let row = self.tuple(plan, 0);
+            self.ask_row("row calls", plan, &row)?;
+        }
+        let rows = join(&layers_of(&plan.shape, &plan.cells));
+        for _ in 0..rows.len().min(8) {
+            let row = self.seeds.pick(&rows);
+            self.ask_row("row calls", plan, &row.places[..k])?;
+        }
+        for _ in 0..6 {
+            let row = self.tuple(plan, 2);
+            self.ask_row("row calls", plan, &row)?;
+        }
+        for length in (0..=8).filter(|&length| length != k) {
+            let mut row = self.tuple(plan, 0);
+            row.resize(length, 0);
+            self.ask_row("row calls", plan, &row)?;
+        }
+        let mut row = self.tuple(plan, 0);
+        row[self.seeds.below(k as u64) as usize] = self.seeds.pick(&[512, 1 << 30, 1 << 31, u32::MAX]);
+        self.ask_row("row calls", plan, &row)
+    }
+
+    /// One place for each layer, up to so many past its last.
+    fn tuple(&mut self, plan: &Plan, past: u64) -> Vec<u32> {
+        let sizes = &plan.shape.sizes[..plan.shape.k as usize];
+        sizes.iter().map(|&size| self.seeds.below((u64::from(size) + past).max(1)) as u32).collect()
+    }
+
+    /// Pages from the fresh ticket until Ended, with refused calls among them.
+    fn paging(&mut self, plan: &Plan) -> Outcome {
+        let good = order(plan);
+        let mut left = (length(plan), count_rows(&layers_of(&plan.shape, &plan.cells)));
+        let mut ticket = self.ask_fresh("fresh tickets", plan, &good)?;
+        let step = left.0 <= 60 && self.seeds.once_in(2);
+        loop {
+            if self.seeds.once_in(5) {
+                self.refused_page(plan, &good, &ticket)?;
+            }
+            let limits = if step { (1, plan.shape.k as usize) } else { self.page_limits(plan, left) };
+            let page = self.ask_page("pages", plan, &good, &ticket, limits)?;
+            ticket = page.ticket;
+            left = (left.0 - u64::from(page.trials), left.1 - u64::from(page.rows));
+            if page.stop == Stop::Ended {
+                break;
+            }
+        }
+        self.ask_page("pages", plan, &good, &ticket, (0, 0))?;
+        let limits = self.limits(plan, 20);
+        self.ask_page("pages", plan, &good, &ticket, limits).map(drop)
+    }
+
+    /// Limits for a page; at times just what the trials or the rows still to come need, or one off.
+    fn page_limits(&mut self, plan: &Plan, left: (u64, u64)) -> (u32, usize) {
+        let (k, (mut budget, mut table)) = (plan.shape.k as usize, self.limits(plan, left.0));
+        if self.seeds.once_in(4) {
+            budget = (left.0 as u32 + self.seeds.pick(&[0, 0, 1, 2])).saturating_sub(1);
+        }
+        if self.seeds.once_in(3) {
+            table = (left.1 as usize * k + self.seeds.pick(&[0, 0, 1, k]))
+                .saturating_sub(self.seeds.pick(&[0, 1, k]));
+        }
+        (budget, table)
+    }
+
+    /// A page call in the list that is most likely refused: plan, order or ticket is damaged.
+    fn refused_page(&mut self, plan: &Plan, good: &[u32], ticket: &Ticket) -> Outcome {
+        let limits = self.limits(plan, 20);
+        let (mut plan, mut order, mut ticket) = (plan.clone(), good.to_vec(), *ticket);
+        match self.seeds.below(3) {
+            0 => {
+                let way = self.seeds.below(8);
+                self.seeds.damage_plan(&mut plan, way);
+            }
+            1 => order.push(0),
+            _ => {
+                let field = self.seeds.below(10);
+                ticket = self.seeds.damage_ticket(&ticket, field);
+            }
+        }
+        self.ask_page("pages", &plan, &order, &ticket, limits).map(drop)
+    }
+
+    /// Good tickets, tickets of another plan, tickets damaged in every field, and any others.
+    fn tickets(&mut self, plan: &Plan) -> Outcome {
+        let good = tickets(plan);
+        for ticket in self.some_tickets(&good, 5) {
+            self.ask_ticket(plan, &ticket)?;
+        }
+        for ticket in self.some_tickets(&good, 2).into_iter().chain([Ticket::ENDED]) {
+            for field in 0..10 {
+                let damaged = self.seeds.damage_ticket(&ticket, field);
+                self.ask_ticket(plan, &damaged)?;
+            }
+        }
+        let style = self.seeds.below(STYLES);
+        let k = if self.seeds.once_in(2) { plan.shape.k as usize } else { 2 + self.seeds.below(5) as usize };
+        let other = self.seeds.plan(k, style);
+        for ticket in self.some_tickets(&tickets(&other), 6) {
+            self.ask_ticket(plan, &ticket)?;
+        }
+        for _ in 0..6 {
+            let ticket = self.seeds.any_ticket();
+            self.ask_ticket(plan, &ticket)?;
+        }
+        self.deep_tickets(plan, &good)
+    }
+
+    /// Tickets with filled slots in which one chosen place is replaced by another of its layer.
+    fn deep_tickets(&mut self, plan: &Plan, good: &[Ticket]) -> Outcome {
+        let deep: Vec<Ticket> = good.iter().copied().filter(|ticket| ticket.filled > 0).collect();
+        for mut ticket in self.some_tickets(&deep, 6) {
+            let slot = self.seeds.below(u64::from(ticket.filled)) as usize;
+            let layer = if slot + 1 < ticket.layer as usize { slot } else { slot + 1 };
+            ticket.chosen[slot] = self.seeds.below(u64::from(plan.shape.sizes[layer]) + 1) as u32;
+            self.ask_ticket(plan, &ticket)?;
+        }
+        for _ in 0..[0, 6, 20, 20, 20][plan.shape.k as usize - 2] {
+            let ticket = self.likely_ticket(plan);
+            self.ask_ticket(plan, &ticket)?;
+        }
+        Ok(())
+    }
+
+    /// A ticket whose every place lies in its layer, and which may yet be no trial.
+    fn likely_ticket(&mut self, plan: &Plan) -> Ticket {
+        let k = u64::from(plan.shape.k);
+        let guard = self.seeds.below(k) as usize;
+        let filled = self.seeds.below(k - 1) as usize;
+        let places = self.tuple(plan, 0);
+        let mut slots = places.clone();
+        slots.remove(guard);
+        let mut chosen = [0; 5];
+        chosen[..filled].copy_from_slice(&slots[..filled]);
+        let (layer, filled, next) = (guard as u32 + 1, filled as u32, slots[filled]);
+        Ticket { ended: false, layer, place: places[guard], filled, chosen, next }
+    }
+
+    /// The first, the last and some others of a list.
+    fn some_tickets(&mut self, of: &[Ticket], count: usize) -> Vec<Ticket> {
+        if of.is_empty() {
+            return Vec::new();
+        }
+        let mut some: Vec<Ticket> = (0..count).map(|_| self.seeds.pick(of)).collect();
+        some.extend([of[0], of[of.len() - 1]]);
+        some
+    }
+
+    /// A page call on the good order with this ticket.
+    fn ask_ticket(&mut self, plan: &Plan, ticket: &Ticket) -> Outcome {
+        let limits = self.limits(plan, 60);
+        self.ask_page("tickets", plan, &order(plan), ticket, limits).map(drop)
+    }
+
+    /// Tables that fit exactly, are a cell or a row short, hold some cells more, or are large.
+    fn whole_runs(&mut self, plan: &Plan) -> Outcome {
+        let k = plan.shape.k as usize;
+        let rows = count_rows(&layers_of(&plan.shape, &plan.cells)) as usize;
+        let exact = rows * k;
+        let short = exact.saturating_sub(1);
+        let row_short = exact.saturating_sub(k);
+        for table in [exact, short, row_short, exact + 1, exact + k - 1, exact + k, 0, k, exact + 1000] {
+            self.ask_run("whole runs", plan, &order(plan), table)?;
+        }
+        Ok(())
+    }
+
+    /// Text buffers of the exact length, shorter and longer ones.
+    fn texts_written(&mut self, plan: &Plan) -> Outcome {
+        let length = text(plan).len();
+        for buffer in [length, length - 1, length + 1, length + 300, length / 2, 7, 0] {
+            self.ask_write("texts written", plan, buffer)?;
+        }
+        Ok(())
+    }
+
+    /// The plan's text into cells enough, more and fewer.
+    fn texts_read(&mut self, plan: &Plan) -> Outcome {
+        let n = plan.cells.len();
+        for cells in [n, n + 1, n + 64, n.saturating_sub(1), n.saturating_sub(4), n / 2, 0] {
+            self.ask_read("texts read", &text(plan), cells)?;
+        }
+        Ok(())
+    }
+
+    /// The plan's text with bytes or lines damaged at random.
+    fn texts_damaged(&mut self, plan: &Plan) -> Outcome {
+        for way in 0..40 {
+            let mut text = text(plan);
+            self.damage_text(&mut text, way % 10);
+            let spare = self.seeds.pick(&[0, 0, 4, 9]);
+            let fewer = self.seeds.pick(&[0, 0, 0, 1]);
+            self.ask_read("texts damaged", &text, (plan.cells.len() + spare).saturating_sub(fewer))?;
+        }
+        Ok(())
+    }
+
+    /// Damages a text in one way.
+    fn damage_text(&mut self, text: &mut Vec<u8>, way: u64) {
+        let at = self.seeds.below(text.len() as u64) as usize;
+        match way {
+            0 => text[at] = self.seeds.below(256) as u8,
+            1 => text[at] = self.seeds.pick(USUAL),
+            2 => drop(text.remove(at)),
+            3 => text.insert(at, text[at]),
+            4 => text.insert(at, self.seeds.pick(USUAL)),
+            5 => text.truncate(at),
+            6 => text.extend_from_within(at..),
+            _ => self.damage_lines(text, way),
+        }
+    }
+
+    /// Drops, doubles or exchanges whole lines, or changes a count by one.
+    fn damage_lines(&mut self, text: &mut Vec<u8>, way: u64) {
+        let mut lines: Vec<Vec<u8>> = text.split_inclusive(|&byte| byte == 10).map(<[u8]>::to_vec).collect();
+        let (a, b) =
+            (self.seeds.below(lines.len() as u64) as usize, self.seeds.below(lines.len() as u64) as usize);
+        match way {
+            7 => drop(lines.remove(a)),
+            8 => lines.insert(b, lines[a].clone()),
+            _ if self.seeds.once_in(2) => lines.swap(a, b),
+            _ => self.damage_count(&mut lines[a]),
+        }
+        *text = lines.concat();
+    }
+
+    /// Changes the last digit of a line by one.
+    fn damage_count(&mut self, line: &mut [u8]) {
+        let at = line.len() - 2;
+        line[at] = if self.seeds.once_in(2) { line[at] + 1 } else { line[at] - 1 };
+    }
+
+    /// Each cause alone and several at once; "Checked in the order of the lines that apply".
+    fn unsound_plans(&mut self, plan: &Plan) -> Outcome {
+        let good = order(plan);
+        let first = tickets(plan).first().copied().unwrap_or(Ticket::ENDED);
+        for way in 0..14 {
+            let mut unsound = plan.clone();
+            let causes = if way < 8 { 1 } else { 2 + self.seeds.below(3) };
+            for cause in 0..causes {
+                let pick = if cause == 0 { way % 8 } else { self.seeds.below(8) };
+                self.seeds.damage_plan(&mut unsound, pick);
+            }
+            self.every_call(&unsound, &good, &first)?;
+        }
+        Ok(())
+    }
+
+    /// Every call that takes a plan, half of the time with later causes as well.
+    fn every_call(&mut self, plan: &Plan, good: &[u32], ticket: &Ticket) -> Outcome {
+        let kind = "unsound plans";
+        let more = self.seeds.once_in(2);
+        let order = if more { [good, &[7]].concat() } else { good.to_vec() };
+        let ticket = if more { self.seeds.any_ticket() } else { *ticket };
+        let room = if more { 0 } else { 2000 };
+        self.ask_order(kind, plan, order.len())?;
+        self.ask_row(kind, plan, &[0; 6][..plan.shape.k.min(6) as usize])?;
+        self.ask_fresh(kind, plan, &order)?;
+        let budget = self.seeds.budget(20);
+        self.ask_page(kind, plan, &order, &ticket, (budget, room))?;
+        self.ask_run(kind, plan, &order, room)?;
+        self.ask_write(kind, plan, room)
+    }
+}
+
+/// Bytes that a damaged text is likely to hold.
+const USUAL: &[u8] = &[
+    b'\t', b'\n', b'\r', b' ', b'-', b'+', b'.', b'0', b'1', b'2', b'9', b'P', b'L', b'R', b'T', b'p', b',',
+    b'/', b':', 0, 11, 127, 128, 0xC3, 255,
+];
+
+// ---------------------------------------------------------------- fixed cases
+
+/// Numbers put in the place of every number of a small text.
+const NUMBERS: &[&str] = &[
+    "",
+    "0",
+    "-0",
+    "00",
+    "07",
+    "-07",
+    "-",
+    "--1",
+    "+1",
+    "1",
+    "-1",
+    "2",
+    "3",
+    "6",
+    "7",
+    "9",
+    "10",
+    "512",
+    "513",
+    "999999",
+    "1000000",
+    "1000001",
+    "-1000000",
+    "-1000001",
+    "9999999",
+    "-9999999",
+    "10000000",
+    "-10000000",
+    "12345678",
+    "01000000",
+    "4294967296",
+    "4294967298",
+    "18446744073709551618",
+    "1-",
+    "1 ",
+    " 1",
+    "1.0",
+    "1e3",
+    "0x1",
+    "1,",
+    ",1",
+    "1,2",
+    "1/",
+    "-1,",
+    "\u{661}",
+    "\u{ff11}",
+];
+
+/// Whole texts in which the comma stands for the tab and the slash for the line end.
+const TEXTS: &[&str] = &[
+    "",
+    "/",
+    "//",
+    ",",
+    "PLAN",
+    "PLAN/",
+    "PLAN,/",
+    "PLAN,2",
+    "PLAN,2/",
+    "PLAN,2,/",
+    "PLAN,2,2/",
+    "PLAN 2/",
+    "plan,2/",
+    "PLANE,2/",
+    "PLAN,,2/",
+    ",PLAN,2/",
+    " PLAN,2/",
+    "PLAN,2 /",
+    "PLAN,0/",
+    "PLAN,1/LAYER,0/",
+    "PLAN,-2/",
+    "PLAN,-2/LAYER,0/LAYER,0/",
+    "PLAN,9999999/",
+    "PLAN,10000000/",
+    "PLAN,2/LAYER,0/",
+    "PLAN,2/LAYER,0/LAYER,0/",
+    "PLAN,2/LAYER,0/LAYER,0",
+    "PLAN,2/LAYER,0/LAYER,0//",
+    "PLAN,2//LAYER,0/LAYER,0/",
+    "/PLAN,2/LAYER,0/LAYER,0/",
+    "PLAN,2/LAYER,0/LAYER,0/LAYER,0/",
+    "PLAN,2/LAYER,0/LAYER,0/PLAN,2/",
+    "PLAN,2/PLAN,2/LAYER,0/LAYER,0/",
+    "LAYER,0/PLAN,2/LAYER,0/",
+    "LAYER,0/LAYER,0/",
+    "PLAN,2/LAYER,0/LAYER,0/PLAN,2/LAYER,0/LAYER,0/",
+    "PLAN,2\r/LAYER,0/LAYER,0/",
+    "PLAN,2/LAYER,0/LAYER,0\r/",
+    "PLAN,2\rLAYER,0\rLAYER,0\r",
+    "PLAN,2/LAYER,0/LAYER,0/ ",
+    "PLAN,2/LAYER,0/LAYER,0/\u{0}",
+    "\u{feff}PLAN,2/LAYER,0/LAYER,0/",
+    "PLAN,2/LAYER,-1/LAYER,0/",
+    "PLAN,2/LAYER,513/LAYER,0/",
+    "PLAN,2/LAYER,1/LAYER,0/",
+    "PLAN,2/LAYER/LAYER,0/",
+    "PLAN,2/LAYER,0,0/LAYER,0/",
+    "PLAN,2/LAYER,0/LAYER,0/RECT,0,0,0,0/",
+    "PLAN,2/RECT,0,0,0,0/LAYER,0/LAYER,0/",
+    "PLAN,2/RECT,0,0,0,0/LAYER,1/LAYER,0/",
+    "PLAN,2/RECT,0,0,0,0/",
+    "RECT,0,0,0,0/",
+    "PLAN,2/LAYER,1/RECT,0,0,0,0/LAYER,0/",
+    "PLAN,2/LAYER,1/RECT,0,0,0/LAYER,0/",
+    "PLAN,2/LAYER,1/RECT,0,0,0,0,0/LAYER,0/",
+    "PLAN,2/LAYER,1/RECT,0,0,0,0,/LAYER,0/",
+    "PLAN,2/LAYER,1/RECT,,0,0,0,0/LAYER,0/",
+    "PLAN,2/LAYER,1/RECT,0,0,0,0/RECT,0,0,0,0/LAYER,0/",
+    "PLAN,2/LAYER,2/RECT,0,0,0,0/LAYER,0/RECT,0,0,0,0/",
+    "PLAN,2/LAYER,0/LAYER,1/RECT,0,0,0,0/",
+    "PLAN,2/LAYER,1/RECT,1,0,0,0/LAYER,0/",
+    "PLAN,2/LAYER,1/RECT,0,1,0,0/LAYER,0/",
+    "PLAN,2/LAYER,1/RECT,0,0,1000001,0/LAYER,0/",
+    "PLAN,2/LAYER,1/RECT,-1000001,0,0,0/LAYER,0/",
+    "PLAN,2/LAYER,1/RECT,-1000000,-1000000,1000000,1000000/LAYER,0/",
+    "PLAN,3/LAYER,0/LAYER,0/",
+    "PLAN,3/LAYER,0/LAYER,0/LAYER,0/",
+    "PLAN,6/LAYER,0/LAYER,0/LAYER,0/LAYER,0/LAYER,0/LAYER,0/",
+    "PLAN,7/LAYER,0/LAYER,0/LAYER,0/LAYER,0/LAYER,0/LAYER,0/LAYER,0/",
+    "PLAN,2/LAYER,9999999/LAYER,0/x",
+    "PLAN,9/x/",
+    "PLAN,9/LAYER,0/RECT,1,1,0,0/LAYER,00/",
+    "PLAN,2/LAYER,0/LAYER,0/LAYER,0/RECT",
+    "RECT,0,0,0,0/LAYER,1/PLAN,2/",
+    "PLAN,\u{e9}/",
+    "PLAN,2/LAYER,0/LAYER,0/\u{e9}",
+    "PLAN,2/LAYER,0/LAYER,0/# done/",
+    "PLAN,2/LAYERS,0/LAYER,0/",
+    "PLAN,2/LAYE,0/LAYER,0/",
+    "PLAN,2/LAYER,1/RECTS,0,0,0,0/LAYER,0/",
+    "PLAN,2/LAYER,1/REC,0,0,0,0/LAYER,0/",
+    "PLAN,2/LAYER,1/rect,0,0,0,0/LAYER,0/",
+];
+
+/// A plan whose chosen places may all meet the guard and yet have nothing in common.
+fn halves() -> Plan {
+    let (lower, upper, whole) = ([0, 0, 10, 4], [0, 6, 10, 10], [5, 0, 10, 10]);
+    plan_from(&[&[lower, upper], &[upper, lower], &[whole, lower], &[whole, upper]])
+}
+
+impl Bench<'_> {
+    /// The examples of the paper, as calls.
+    fn ground(&mut self) -> Outcome {
+        let kind = "ground examples";
+        let equal = [0, 0, 1, 1];
+        let plans = [
+            plan_d(),
+            equal_plan(&[1, 1], equal),
+            equal_plan(&[1, 0], equal),
+            equal_plan(&[1, 1, 0], equal),
+            plan_from(&[&[[0, 0, 9, 5]], &[[10, 0, 20, 5]]]),
+            plan_from(&[&[[0, 0, 10, 5]], &[[10, 0, 20, 5]]]),
+        ];
+        for plan in &plans {
+            self.ask_order(kind, plan, plan.cells.len() / 4)?;
+            self.ask_run(kind, plan, &order(plan), 20)?;
+            for limits in [(2, 10), (9, 2), (0, 0)] {
+                let fresh = self.ask_fresh(kind, plan, &order(plan))?;
+                let page = self.ask_page(kind, plan, &order(plan), &fresh, limits)?;
+                self.ask_page(kind, plan, &order(plan), &page.ticket, limits)?;
+            }
+            self.ask_write(kind, plan, 200)?;
+            self.ask_read(kind, &text(plan), 20)?;
+        }
+        Ok(())
+    }
+
+    /// The cases that are not drawn; each of them in one of the first rounds.
+    fn fixed(&mut self, round: u64) -> Outcome {
+        match round {
+            0 => self.ticket_box(&equal_plan(&[2, 2], [0, 0, 1, 1])),
+            1 => self.ticket_box(&plan_from(&[
+                &[[0, 0, 4, 4], [2, 0, 3, 3]],
+                &[[1, 1, 5, 5], [0, 9, 9, 9]],
+                &[[1, 0, 2, 2]],
+            ])),
+            2 => self.ticket_box(&halves()),
+            3 => self.row_box(),
+            4 => self.hand_texts(),
+            5 => self.number_texts(),
+            6 => self.size_limits(),
+            7 => self.wrapped_sizes(),
+            8 => self.row_cap(),
+            9 => self.every_byte(&text(&plan_d()), USUAL),
+            10 => self.every_byte(&text(&plan_from(&[&[[-1_000_000, -99, 7, 1_000_000]], &[], &[]])), USUAL),
+            11 => self.every_byte(
+                &spell("PLAN,2/LAYER,1/RECT,-1,0,23,4/LAYER,0/"),
+                &(0..=255).collect::<Vec<u8>>(),
+            ),
+            _ => Ok(()),
+        }
+    }
+
+    /// Texts spelled by hand, into cells enough, just enough and too few.
+    fn hand_texts(&mut self) -> Outcome {
+        for spelling in TEXTS {
+            for cells in [0, 3, 4, 5, 40] {
+                self.ask_read("texts by hand", &spell(spelling), cells)?;
+            }
+        }
+        Ok(())
+    }
+
+    /// Every number of plan D's text replaced by each of many others.
+    fn number_texts(&mut self) -> Outcome {
+        let text = String::from_utf8(text(&plan_d())).expect("a text is plain");
+        let parts: Vec<&str> = text.split_inclusive(['\t', '\n']).collect();
+        for (at, part) in parts.iter().enumerate() {
+            let end = &part[part.len() - 1..];
+            for number in NUMBERS.iter().map(|number| spell(number)) {
+                let mut damaged = parts[..at].concat().into_bytes();
+                damaged.extend(number);
+                damaged.extend(end.bytes());
+                damaged.extend(parts[at + 1..].concat().bytes());
+                self.ask_read("texts by hand", &damaged, 14)?;
+            }
+        }
+        Ok(())
+    }
+
+    /// Every byte of a text replaced by others, dropped, doubled, preceded by others; every shorter text.
+    fn every_byte(&mut self, text: &[u8], others: &[u8]) -> Outcome {
+        let kind = "texts byte by byte";
+        for at in 0..text.len() {
+            let (before, after) = (&text[..at], &text[at + 1..]);
+            for &other in others {
+                self.ask_read(kind, &[before, &[other], after].concat(), 16)?;
+                self.ask_read(kind, &[before, &[other], &text[at..]].concat(), 16)?;
+            }
+            self.ask_read(kind, &[before, after].concat(), 16)?;
+            self.ask_read(kind, &[before, &text[at..=at], &text[at..]].concat(), 16)?;
+            self.ask_read(kind, before, 16)?;
+        }
+        Ok(())
+    }
+
+    /// 512 is a size, 513 is none, in plans and in texts.
+    fn size_limits(&mut self) -> Outcome {
+        for sizes in [[512, 1], [513, 1], [1, 512], [1, 513], [0, 512], [513, 0]] {
+            let plan = equal_plan(&sizes, [-3, 0, 4, 1]);
+            let n = plan.cells.len() / 4;
+            let identity: Vec<u32> = (0..n as u32).collect();
+            self.ask_order("unsound plans", &plan, n)?;
+            self.every_call(&plan, &identity, &Ticket::ENDED)?;
+            for cells in [4 * n, 4 * n - 1, 4 * n + 5] {
+                self.ask_read("texts by hand", &text(&plan), cells)?;
+            }
+            self.ask_write("texts written", &plan, 20_000)?;
+        }
+        Ok(())
+    }
+
+    /// Sizes whose sum, or four times it, would wrap round to what the cells hold.
+    fn wrapped_sizes(&mut self) -> Outcome {
+        let wraps: [[u32; 6]; 6] = [
+            [1 << 30, 0, 0, 0, 0, 0],
+            [1 << 31, 1 << 31, 0, 0, 0, 0],
+            [u32::MAX, 1, 0, 0, 0, 0],
+            [u32::MAX, 2, 0, 0, 0, 0],
+            [u32::MAX; 6],
+            [0, 0, 0, 0, 0, u32::MAX],
+        ];
+        for (sizes, k) in wraps.iter().flat_map(|sizes| [0, 1, 2, 3, 5, 6, 7, u32::MAX].map(|k| (*sizes, k)))
+        {
+            for cells in [0, 4, 8] {
+                let mut plan = Plan { shape: shape_of(&sizes), cells: vec![0; cells] };
+                plan.shape.k = k;
+                self.every_call(&plan, &[], &Ticket::ENDED)?;
+            }
+        }
+        Ok(())
+    }
+
+    /// Every ticket of small numbers, on a small plan.
+    fn ticket_box(&mut self, plan: &Plan) -> Outcome {
+        let sides = [5, 3, 3, 3, 2, 3, 2];
+        for code in 0..sides.iter().product::<u32>() {
+            let mut rest = code;
+            let digits = sides.map(|side| {
+                let digit = rest % side;
+                rest /= side;
+                digit
+            });
+            let [layer, place, filled, first, second, next, ended] = digits;
+            let ended = ended == 1 && code % 5 == 0;
+            self.ask_ticket(
+                plan,
+                &Ticket { ended, layer, place, filled, chosen: [first, second, 0, 0, 0], next },
+            )?;
+        }
+        Ok(())
+    }
+
+    /// Every tuple of places, one past the last included, on small plans of each k.
+    fn row_box(&mut self) -> Outcome {
+        for style in 0..STYLES {
+            for k in 2..=5 {
+                let sizes = &[2; 6][..k];
+                let plan = self.seeds.plan_of(sizes, style);
+                for code in 0..3u32.pow(k as u32) {
+                    let row: Vec<u32> = (0..k).map(|j| code / 3u32.pow(j as u32) % 3).collect();
+                    self.ask_row("row calls", &plan, &row)?;
+                }
+            }
+        }
+        Ok(())
+    }
+}
+
+// ---------------------------------------------------------------- large plans
+
+impl Bench<'_> {
+    /// "never more than 1,000,000" rows, however large the table is.
+    fn row_cap(&mut self) -> Outcome {
+        let kind = "large plans";
+        let exact = equal_plan(&[100, 100, 100], [5, 5, 5, 5]);
+        self.ask_run(kind, &exact, &order(&exact), 3_000_000)?;
+        self.ask_run(kind, &exact, &order(&exact), 2_999_999)?;
+        let over = equal_plan(&[4, 500, 501], [-1, -1, 0, 0]);
+        self.ask_run(kind, &over, &order(&over), 3_006_007)?;
+        let fresh = tickets(&over)[0];
+        let page = self.ask_page(kind, &over, &order(&over), &fresh, (u32::MAX, 3_006_007))?;
+        self.ask_page(kind, &over, &order(&over), &page.ticket, (u32::MAX, 3_006_007)).map(drop)
+    }
+
+    /// Layers up to 512 rectangles.
+    fn large(&mut self) -> Outcome {
+        for style in 0..STYLES {
+            let sizes = [200 + self.seeds.below(313) as u32, 512];
+            let plan = self.seeds.plan_of(&sizes, style);
+            self.large_plan(&plan)?;
+        }
+        for (sizes, side) in [
+            (vec![512, 512], 100_000),
+            (vec![512, 512], 5_000),
+            (vec![512, 512, 512], 60_000),
+            (vec![512, 0, 512], 30_000),
+            (vec![300, 512, 400], 90_000),
+            (vec![200, 200, 200, 200], 150_000),
+            (vec![90, 90, 90, 90, 90], 300_000),
+            (vec![60, 60, 60, 60, 60, 60], 400_000),
+            (vec![512, 512, 512, 512, 512, 512], 80_000),
+        ] {
+            let plan = self.seeds.sparse(&sizes, side);
+            self.large_plan(&plan)?;
+        }
+        let dense = equal_plan(&[400, 400, 400], [0, 0, 1_000_000, 1_000_000]);
+        self.ask_run("large plans", &dense, &order(&dense), 3_000_000)
+    }
+
+    /// Order, row calls, whole runs, pages, tickets and texts on a large plan.
+    fn large_plan(&mut self, plan: &Plan) -> Outcome {
+        let kind = "large plans";
+        let (good, k) = (order(plan), plan.shape.k as usize);
+        let rows = count_rows(&layers_of(&plan.shape, &plan.cells)) as usize;
+        self.ask_order(kind, plan, good.len())?;
+        self.ask_run(kind, plan, &good, rows * k)?;
+        self.ask_run(kind, plan, &good, (rows * k).saturating_sub(1))?;
+        for _ in 0..50 {
+            let row = self.tuple(plan, 1);
+            self.ask_row(kind, plan, &row)?;
+        }
+        let length = text(plan).len();
+        self.ask_write(kind, plan, length)?;
+        self.ask_write(kind, plan, length - 1)?;
+        self.ask_read(kind, &text(plan), plan.cells.len())?;
+        self.ask_read(kind, &text(plan), plan.cells.len() - 1)?;
+        for way in 0..10 {
+            let mut damaged = text(plan);
+            self.damage_text(&mut damaged, way);
+            self.ask_read(kind, &damaged, plan.cells.len() + 9)?;
+        }
+        self.large_pages(plan, &good)
+    }
+
+    /// Some pages from the fresh ticket, then one to the end, and damaged tickets.
+    fn large_pages(&mut self, plan: &Plan, good: &[u32]) -> Outcome {
+        let kind = "large plans";
+        let length = length(plan);
+        let mut ticket = self.ask_fresh(kind, plan, good)?;
+        for _ in 0..2 {
+            let limits = (self.seeds.below(length / 2 + 1) as u32, 20_000);
+            ticket = self.ask_page(kind, plan, good, &ticket, limits)?.ticket;
+        }
+        let field = self.seeds.below(10);
+        let damaged = self.seeds.damage_ticket(&ticket, field);
+        self.ask_page(kind, plan, good, &damaged, (5, 100))?;
+        self.ask_page(kind, plan, good, &ticket, (u32::MAX, 1_000_000)).map(drop)
+    }
+}

@@ -1,0 +1,13 @@
+//! The rules of the plan overlay written a second time, and a comparison of two overlays.
+//!
+//! An overlay under test implements `overlay::Overlay` and is handed to `compare::compare` beside
+//! `reference::Reference`; its report is handed to `reports::compare_reports` beside
+//! `reference::report`. Both give their counts, or the first difference with the whole case.
+
+pub mod call;
+pub mod compare;
+pub mod overlay;
+pub mod reference;
+pub mod reports;
+pub mod seeds;
+pub mod wrong;

@@ -1,0 +1,49 @@
+//! Compares the reference with wrong overlays, each of which must be caught, and with itself.
+
+use overlay_tests::compare::{compare, Tally};
+use overlay_tests::reference::{report, Reference};
+use overlay_tests::reports::compare_reports;
+use overlay_tests::wrong::{Wrong, REPORT_SLIPS, SLIPS};
+use std::process::exit;
+
+/// Prints a difference and stops with an error.
+fn stop(text: &str) -> ! {
+    println!("{text}");
+    exit(1);
+}
+
+/// Every wrong overlay must differ from the reference somewhere.
+fn catch_wrong_overlays() {
+    for (slip, name) in SLIPS {
+        match compare(&Wrong(slip), &Reference) {
+            Err(found) => {
+                println!("wrong overlay caught after {} cases ({}): {name}", found.cases, found.kind)
+            }
+            Ok(_) => stop(&format!("wrong overlay not caught: {name}")),
+        }
+    }
+}
+
+/// Every wrong report must differ from the right one somewhere.
+fn catch_wrong_reports() {
+    for (wrong, name) in REPORT_SLIPS {
+        match compare_reports(&wrong, &report) {
+            Err(found) => println!("wrong report caught after {} cases: {name}", found.cases),
+            Ok(_) => stop(&format!("wrong report not caught: {name}")),
+        }
+    }
+}
+
+/// The reference must agree with itself.
+fn compare_with_itself() -> Tally {
+    let mut tally = compare(&Reference, &Reference).unwrap_or_else(|found| stop(&found.text));
+    tally.add("reports", compare_reports(&report, &report).unwrap_or_else(|found| stop(&found.text)));
+    tally
+}
+
+/// The self-check first, then the counts.
+fn main() {
+    catch_wrong_overlays();
+    catch_wrong_reports();
+    print!("{}", compare_with_itself());
+}

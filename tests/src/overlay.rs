@@ -1,0 +1,100 @@
+//! The calls of the plan overlay on plain types.
+
+/// k and the six sizes of a plan.
+#[derive(Clone, Copy, Debug, PartialEq, Eq)]
+pub struct Shape {
+    pub k: u32,
+    pub sizes: [u32; 6],
+}
+
+/// The trial due next, or Ended with all else 0.
+#[derive(Clone, Copy, Debug, PartialEq, Eq)]
+pub struct Ticket {
+    pub ended: bool,
+    pub layer: u32,
+    pub place: u32,
+    pub filled: u32,
+    pub chosen: [u32; 5],
+    pub next: u32,
+}
+
+impl Ticket {
+    /// Ended in its one form.
+    pub const ENDED: Ticket = Ticket { ended: true, layer: 0, place: 0, filled: 0, chosen: [0; 5], next: 0 };
+}
+
+/// Why a page call stopped.
+#[derive(Clone, Copy, Debug, PartialEq, Eq)]
+pub enum Stop {
+    Ended,
+    Full,
+    Spent,
+    Refused(u32),
+}
+
+/// What a page call returns.
+#[derive(Clone, Copy, Debug, PartialEq, Eq)]
+pub struct Page {
+    pub stop: Stop,
+    pub rows: u32,
+    pub trials: u32,
+    pub area: u64,
+    pub ticket: Ticket,
+}
+
+/// What the whole run returns; number 0 is an acceptance.
+#[derive(Clone, Copy, Debug, PartialEq, Eq)]
+pub struct Run {
+    pub number: u32,
+    pub rows: u32,
+    pub trials: u64,
+    pub area: u64,
+}
+
+/// What the row call returns; layer 0 with number 0 says that the cells name no row.
+#[derive(Clone, Copy, Debug, PartialEq, Eq)]
+pub struct RowTold {
+    pub number: u32,
+    pub layer: u32,
+    pub area: u64,
+}
+
+/// What the reader of a plan text returns.
+#[derive(Clone, Copy, Debug, PartialEq, Eq)]
+pub struct Reading {
+    pub number: u32,
+    pub shape: Shape,
+}
+
+/// What the writer of a plan text returns.
+#[derive(Clone, Copy, Debug, PartialEq, Eq)]
+pub struct Writing {
+    pub number: u32,
+    pub length: usize,
+}
+
+/// The calls that are compared; both the reference and the one under test have them.
+pub trait Overlay {
+    /// Makes the sweep order in a buffer of n cells.
+    fn make_order(&self, shape: &Shape, cells: &[i32], order: &mut [u32]) -> u32;
+    /// Tells the guard's layer and the area of the row in the cells.
+    fn row(&self, shape: &Shape, cells: &[i32], row: &[u32]) -> RowTold;
+    /// Gives the ticket of the first trial.
+    fn fresh(&self, shape: &Shape, cells: &[i32], order: &[u32]) -> (u32, Ticket);
+    /// Does trials from a ticket on, within a budget and a table.
+    fn page(
+        &self,
+        shape: &Shape,
+        cells: &[i32],
+        order: &[u32],
+        ticket: &Ticket,
+        budget: u32,
+        table: &mut [u32],
+    ) -> Page;
+    /// Does the whole walk into one table.
+    fn run(&self, shape: &Shape, cells: &[i32], order: &[u32], table: &mut [u32]) -> Run;
+    /// Reads a plan text into cells.
+    fn read(&self, text: &[u8], cells: &mut [i32]) -> Reading;
+    /// Writes the text of a plan.
+    fn write(&self, shape: &Shape, cells: &[i32], text: &mut [u8]) -> Writing;
+}

@@ -1,0 +1,121 @@
+//! Compares two reports byte by byte over many inputs.
+
+use crate::call::Plan;
+use crate::compare::Difference;
+use crate::seeds::{equal_plan, plan_d, plan_from, shape_of, spell, text, Seeds, STYLES};
+
+/// How many drawn texts are reported.
+const DRAWN: u64 = 300;
+
+/// Reports as functions from input to printed bytes; returns how many inputs were compared.
+pub fn compare_reports(
+    left: &dyn Fn(&[u8]) -> Vec<u8>,
+    right: &dyn Fn(&[u8]) -> Vec<u8>,
+) -> Result<u64, Difference> {
+    let mut cases = 0;
+    for input in inputs() {
+        cases += 1;
+        let (ours, theirs) = (left(&input), right(&input));
+        if ours != theirs {
+            return Err(Difference { cases, kind: "reports", text: show(&input, &ours, &theirs) });
+        }
+    }
+    Ok(cases)
+}
+
+/// The whole case.
+fn show(input: &[u8], left: &[u8], right: &[u8]) -> String {
+    let lines = [("input", input), ("left", left), ("right", right)];
+    let shown = lines.map(|(name, bytes)| format!("{name}: \"{}\"", bytes.escape_ascii()));
+    format!("DIFFERENCE in reports\n{}\n", shown.join("\n"))
+}
+
+/// Every input of the comparison.
+pub fn inputs() -> Vec<Vec<u8>> {
+    let mut all = vec![Vec::new(), spell("PLAN,2/"), spell("PLAN,2/LAYER,0/LAYER,0/"), text(&plan_d())];
+    all.extend(rounding().iter().map(text));
+    all.extend(full_tables().iter().map(text));
+    all.extend(long_inputs());
+    let mut seeds = Seeds(0x9E37_79B9_7F4A_7C15);
+    for round in 0..DRAWN {
+        let mut text = text(&seeds.plan(2 + (round % 5) as usize, (round / 5) % STYLES));
+        if seeds.once_in(6) {
+            let at = seeds.below(text.len() as u64) as usize;
+            text.remove(at);
+        }
+        all.push(text);
+    }
+    all
+}
+
+/// Area sums about 4,999 and 5,000, in one row and in several, and the largest.
+fn rounding() -> Vec<Plan> {
+    let mut plans: Vec<Plan> =
+        [(1, 4_999), (1, 5_000), (1, 14_999), (1, 15_000), (3, 333_333), (100, 999_950), (1_000, 1_000_000)]
+            .iter()
+            .map(|&(width, height)| equal_plan(&[1, 1], [0, 0, width, height]))
+            .collect();
+    plans.push(equal_plan(&[2, 1], [0, 0, 1, 4_999]));
+    plans.push(equal_plan(&[2, 2, 2], [0, 0, 50, 99]));
+    plans.push(equal_plan(&[64, 96], [-1_000_000, -1_000_000, 1_000_000, 1_000_000]));
+    plans
+}
+
+/// As many rows as the report's table takes for each k, and one more.
+fn full_tables() -> Vec<Plan> {
+    let sizes: [&[u32]; 5] =
+        [&[64, 96], &[16, 16, 16], &[3, 4, 16, 16], &[3, 3, 3, 7, 13], &[2, 4, 4, 4, 4, 4]];
+    let exact = sizes.map(|sizes| equal_plan(sizes, [0, 0, 2, 2]));
+    let mut plans = exact.to_vec();
+    plans.extend(exact.iter().map(one_more));
+    plans
+}
+
+/// The plan with a point far off in every layer, which is one row more.
+fn one_more(plan: &Plan) -> Plan {
+    let k = plan.shape.k as usize;
+    let sizes: Vec<u32> = plan.shape.sizes[..k].iter().map(|size| size + 1).collect();
+    let mut rects = plan.cells.chunks(4);
+    let mut cells = Vec::new();
+    for size in &plan.shape.sizes[..k] {
+        cells.extend(rects.by_ref().take(*size as usize).flatten());
+        cells.extend([9, 9, 9, 9]);
+    }
+    Plan { shape: shape_of(&sizes), cells }
+}
+
+/// Inputs of 65,536 bytes and about it, good and not.
+fn long_inputs() -> Vec<Vec<u8>> {
+    let mut all: Vec<Vec<u8>> =
+        [65_535, 65_536, 65_537, 65_600].iter().map(|&length| text(&plan_of_length(length))).collect();
+    for length in [65_535, 65_536, 65_537, 200_000] {
+        all.push(vec![b'x'; length]);
+        let mut unfinished = text(&plan_from(&[&[[0, 0, 1, 1]], &[[0, 0, 1, 1]]]));
+        unfinished.resize(length, b'\n');
+        all.push(unfinished);
+    }
+    all
+}
+
+/// A plan of four layers of 512 narrow rectangles whose text has the given length.
+fn plan_of_length(length: usize) -> Plan {
+    const BOTTOMS: [i32; 8] = [0, -9, -99, -999, -9_999, -99_999, -999_999, -1_000_000];
+    const TOPS: [i32; 7] = [0, 10, 100, 1_000, 10_000, 100_000, 1_000_000];
+    let rects = 4 * 512;
+    // Without bottom and top: PLAN line, four LAYER lines, and 21 bytes for each RECT line.
+    let mut spare = length - 7 - 4 * 10 - rects * 21;
+    let mut cells = Vec::new();
+    for at in 0..rects {
+        let share = spare / (rects - at);
+        let bottom = BOTTOMS[(share / 2).clamp(1, 8) - 1];
+        let used = bottom.to_string().len();
+        let top = TOPS[(share - used).clamp(1, 7) - 1];
+        let used = used + top.to_string().len();
+        let left = 100_000 + 100 * (at as i32 % 512) + 40 * (at as i32 / 512);
+        cells.extend([left, bottom, left + 50, top]);
+        spare -= used;
+    }
+    let plan = Plan { shape: shape_of(&[512; 4]), cells };
+    assert_eq!(text(&plan).len(), length);
+    plan
+}

@@ -1,0 +1,131 @@
+//! Every outcome of every call occurs often enough among the compared cases.
+
+use overlay_tests::compare::compare;
+use overlay_tests::overlay::{Overlay, Page, Reading, RowTold, Run, Shape, Stop, Ticket, Writing};
+use overlay_tests::reference::Reference;
+use std::cell::RefCell;
+use std::collections::BTreeMap;
+
+/// The reference, counting its outcomes.
+#[derive(Default)]
+struct Counting(RefCell<BTreeMap<String, u64>>);
+
+impl Counting {
+    /// Counts one outcome.
+    fn count(&self, outcome: String) {
+        *self.0.borrow_mut().entry(outcome).or_default() += 1;
+    }
+
+    /// Counts a page with what makes it special.
+    fn count_page(&self, shape: &Shape, page: &Page, budget: u32, table: usize) {
+        self.count(format!("page {:?}", page.stop));
+        if matches!(page.stop, Stop::Refused(_)) {
+            return;
+        }
+        self.count(format!("page {:?} k {}", page.stop, shape.k));
+        let full = page.rows > 0 && page.rows as usize == table / shape.k as usize;
+        if page.stop == Stop::Ended && full {
+            self.count("page Ended with a full table".into());
+        }
+        if page.stop == Stop::Ended && page.trials > 0 && page.trials == budget {
+            self.count("page Ended with a spent budget".into());
+        }
+        if page.stop == Stop::Full && budget > 0 && page.trials == budget {
+            self.count("page Full with a spent budget".into());
+        }
+        if !page.ticket.ended {
+            self.count(format!("ticket filled {} of k {}", page.ticket.filled, shape.k));
+        }
+    }
+}
+
+impl Overlay for Counting {
+    fn make_order(&self, shape: &Shape, cells: &[i32], order: &mut [u32]) -> u32 {
+        let number = Reference.make_order(shape, cells, order);
+        self.count(format!("order {number}"));
+        number
+    }
+
+    fn row(&self, shape: &Shape, cells: &[i32], row: &[u32]) -> RowTold {
+        let told = Reference.row(shape, cells, row);
+        self.count(format!("row {} layer {}", told.number, told.layer));
+        told
+    }
+
+    fn fresh(&self, shape: &Shape, cells: &[i32], order: &[u32]) -> (u32, Ticket) {
+        let (number, ticket) = Reference.fresh(shape, cells, order);
+        self.count(format!("fresh {number} ended {}", ticket.ended));
+        (number, ticket)
+    }
+
+    fn page(
+        &self,
+        shape: &Shape,
+        cells: &[i32],
+        order: &[u32],
+        ticket: &Ticket,
+        budget: u32,
+        table: &mut [u32],
+    ) -> Page {
+        let page = Reference.page(shape, cells, order, ticket, budget, table);
+        self.count_page(shape, &page, budget, table.len());
+        page
+    }
+
+    fn run(&self, shape: &Shape, cells: &[i32], order: &[u32], table: &mut [u32]) -> Run {
+        let run = Reference.run(shape, cells, order, table);
+        self.count(format!("run {}", run.number));
+        run
+    }
+
+    fn read(&self, text: &[u8], cells: &mut [i32]) -> Reading {
+        let reading = Reference.read(text, cells);
+        self.count(format!("read {}", reading.number));
+        reading
+    }
+
+    fn write(&self, shape: &Shape, cells: &[i32], text: &mut [u8]) -> Writing {
+        let writing = Reference.write(shape, cells, text);
+        self.count(format!("write {}", writing.number));
+        writing
+    }
+}
+
+/// All outcomes that must occur.
+fn outcomes() -> Vec<String> {
+    let mut all = Vec::new();
+    let mut add =
+        |name: &str, numbers: &[u32]| all.extend(numbers.iter().map(|number| format!("{name} {number}")));
+    add("order", &[0, 1, 2, 3, 4, 8]);
+    add("run", &[0, 1, 2, 3, 4, 5, 7]);
+    add("read", &[0, 9, 10, 11]);
+    add("write", &[0, 1, 2, 3, 4, 12]);
+    add("row 0 layer", &[0, 1, 2, 3, 4, 5, 6]);
+    add("page Ended k", &[2, 3, 4, 5, 6]);
+    add("page Full k", &[2, 3, 4, 5, 6]);
+    add("page Spent k", &[2, 3, 4, 5, 6]);
+    for k in 2..=6 {
+        all.extend((0..=k - 2).map(|filled| format!("ticket filled {filled} of k {k}")));
+    }
+    all.extend((1..=4).map(|number| format!("row {number} layer 0")));
+    all.extend((0..=5).map(|number| format!("fresh {number} ended true")));
+    all.push("fresh 0 ended false".into());
+    all.extend((1..=6).map(|number| format!("page Refused({number})")));
+    all.extend(["full table", "spent budget"].map(|what| format!("page Ended with a {what}")));
+    all.push("page Full with a spent budget".into());
+    all
+}
+
+#[test]
+fn every_outcome_occurs() {
+    let counting = Counting::default();
+    assert!(compare(&counting, &Reference).is_ok());
+    let counts = counting.0.borrow();
+    for (outcome, count) in counts.iter() {
+        println!("{outcome}: {count}");
+    }
+    for outcome in outcomes() {
+        let count = counts.get(&outcome).copied().unwrap_or(0);
+        assert!(count >= 20, "{outcome}: {count}");
+    }
+}

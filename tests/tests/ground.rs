@@ -1,0 +1,282 @@
+//! Every example of the paper's "Ground to check" and "The report", and facts that tie the parts together.
+
+use overlay_tests::call::Plan;
+use overlay_tests::overlay::{Overlay, Page, Reading, Run, Shape, Stop, Ticket, Writing};
+use overlay_tests::reference::{
+    each_row_by_loops, each_row_by_product, join, layers_of, passes, report, square_metres, trials_by,
+    walk_length, Reference,
+};
+use overlay_tests::seeds::{equal_plan, order, plan_d, plan_from, shape_of, spell, text, Seeds, STYLES};
+
+/// A whole run into so many cells.
+fn run(plan: &Plan, cells: usize) -> (Run, Vec<u32>) {
+    let mut table = vec![77; cells];
+    (Reference.run(&plan.shape, &plan.cells, &order(plan), &mut table), table)
+}
+
+/// The fresh ticket.
+fn fresh(plan: &Plan) -> Ticket {
+    let (number, ticket) = Reference.fresh(&plan.shape, &plan.cells, &order(plan));
+    assert_eq!(number, 0);
+    ticket
+}
+
+/// A page into so many cells.
+fn page(plan: &Plan, ticket: &Ticket, budget: u32, cells: usize) -> (Page, Vec<u32>) {
+    let mut table = vec![77; cells];
+    (Reference.page(&plan.shape, &plan.cells, &order(plan), ticket, budget, &mut table), table)
+}
+
+/// The number of a reading, and the cells after it.
+fn read(text: &[u8], cells: usize) -> (Reading, Vec<i32>) {
+    let mut lent = vec![77; cells];
+    (Reference.read(text, &mut lent), lent)
+}
+
+/// Plan D's text with its first right replaced.
+fn number_with(right: &str) -> u32 {
+    read(&spell(&format!("PLAN,2/LAYER,1/RECT,0,0,{right},1000/LAYER,0/")), 4).0.number
+}
+
+#[test]
+fn d_has_two_rows_and_four_trials() {
+    let (told, table) = run(&plan_d(), 6);
+    assert_eq!(told, Run { number: 0, rows: 2, trials: 4, area: 250_000 });
+    assert_eq!(table, [0, 0, 1, 0, 77, 77]);
+    let rows = join(&layers_of(&plan_d().shape, &plan_d().cells));
+    assert_eq!((rows[0].guard, rows[0].area, rows[1].guard, rows[1].area), (2, 250_000, 1, 0));
+}
+
+#[test]
+fn d_walks_as_said() {
+    let tickets: Vec<Ticket> = trials_by(&layers_of(&plan_d().shape, &plan_d().cells), passes)
+        .iter()
+        .map(|trial| trial.ticket)
+        .collect();
+    let of = |layer, place, next| Ticket { ended: false, layer, place, filled: 0, chosen: [0; 5], next };
+    assert_eq!(tickets, [of(1, 0, 0), of(2, 0, 0), of(2, 0, 1), of(1, 1, 0)]);
+    assert_eq!(fresh(&plan_d()), of(1, 0, 0));
+}
+
+#[test]
+fn d_by_budget_two() {
+    let (first, table) = page(&plan_d(), &fresh(&plan_d()), 2, 10);
+    assert_eq!((first.stop, first.rows, first.trials, first.area), (Stop::Spent, 1, 2, 250_000));
+    assert_eq!(table, [0, 0, 77, 77, 77, 77, 77, 77, 77, 77]);
+    let (second, table) = page(&plan_d(), &first.ticket, 2, 10);
+    assert_eq!((second.stop, second.rows, second.trials, second.area), (Stop::Ended, 1, 2, 0));
+    assert_eq!((second.ticket, &table[..3]), (Ticket::ENDED, &[1, 0, 77][..]));
+}
+
+#[test]
+fn d_by_a_table_of_two_cells() {
+    let (first, table) = page(&plan_d(), &fresh(&plan_d()), 9, 2);
+    assert_eq!((first.stop, first.rows, first.trials), (Stop::Full, 1, 2));
+    assert_eq!(table, [0, 0]);
+    let (second, table) = page(&plan_d(), &first.ticket, 9, 2);
+    assert_eq!((second.stop, second.rows, second.trials), (Stop::Ended, 1, 2));
+    assert_eq!(table, [1, 0]);
+}
+
+#[test]
+fn d_without_budget_and_cells_is_full() {
+    let (told, _) = page(&plan_d(), &fresh(&plan_d()), 0, 0);
+    assert_eq!(told, Page { stop: Stop::Full, rows: 0, trials: 0, area: 0, ticket: fresh(&plan_d()) });
+}
+
+#[test]
+fn equal_rectangles_have_one_row_with_the_guard_in_layer_1() {
+    let plan = equal_plan(&[1, 1], [3, 4, 5, 6]);
+    assert_eq!(run(&plan, 2).0, Run { number: 0, rows: 1, trials: 2, area: 4 });
+    let told = Reference.row(&plan.shape, &plan.cells, &[0, 0]);
+    assert_eq!((told.number, told.layer, told.area), (0, 1, 4));
+}
+
+#[test]
+fn sizes_1_and_0_have_no_trials() {
+    let plan = equal_plan(&[1, 0], [3, 4, 5, 6]);
+    assert_eq!(run(&plan, 0).0, Run { number: 0, rows: 0, trials: 0, area: 0 });
+    assert_eq!(fresh(&plan), Ticket::ENDED);
+}
+
+#[test]
+fn sizes_1_1_0_have_two_trials_and_no_row() {
+    let plan = equal_plan(&[1, 1, 0], [3, 4, 5, 6]);
+    assert_eq!(run(&plan, 0).0, Run { number: 0, rows: 0, trials: 2, area: 0 });
+}
+
+#[test]
+fn touching_is_meeting() {
+    for (right, rows) in [(9, 0), (10, 1)] {
+        for swapped in [false, true] {
+            let (a, b) = ([0, 0, right, 5], [10, 0, 20, 5]);
+            let plan = if swapped { plan_from(&[&[b], &[a]]) } else { plan_from(&[&[a], &[b]]) };
+            assert_eq!(run(&plan, 9).0.rows, rows);
+        }
+    }
+}
+
+#[test]
+fn spellings_of_a_number() {
+    assert_eq!(["-0", "07", "1000001", "1000000"].map(number_with), [9, 9, 10, 0]);
+    let (reading, cells) = read(&spell("PLAN,2/LAYER,1/RECT,0,0,1000000,1000/LAYER,0/"), 5);
+    assert_eq!(reading, Reading { number: 0, shape: shape_of(&[1, 0]) });
+    assert_eq!(cells, [0, 0, 1_000_000, 1000, 77]);
+}
+
+#[test]
+fn size_512_and_not_513() {
+    for (size, number) in [(512, 0), (513, 2)] {
+        let plan = equal_plan(&[size, 1], [0, 0, 1, 1]);
+        let mut order = vec![9; size as usize + 1];
+        assert_eq!(Reference.make_order(&plan.shape, &plan.cells, &mut order), number);
+        let number = if number == 2 { 10 } else { 0 };
+        assert_eq!(read(&text(&plan), 5000).0.number, number);
+    }
+}
+
+#[test]
+fn empty_and_unfinished_texts() {
+    assert_eq!(read(b"", 9).0.number, 9);
+    let whole = text(&plan_d());
+    assert_eq!(read(&whole[..whole.len() - 1], 20).0.number, 9);
+    assert_eq!(read(&whole, 20).0.number, 0);
+    assert_eq!(read(&whole, 11).0.number, 11);
+    assert_eq!(read(&whole, 11).1, [77; 11]);
+}
+
+#[test]
+fn texts_that_10_and_9_part() {
+    let number = |spelling: &str| read(&spell(spelling), 0).0.number;
+    assert_eq!(number("PLAN,-2/"), 10);
+    assert_eq!(number("PLAN,2/"), 10);
+    assert_eq!(number("PLAN,9999999/"), 10);
+    assert_eq!(number("PLAN,10000000/"), 9);
+    assert_eq!(number("PLAN,9/LAYER,00/"), 9);
+    assert_eq!(number("PLAN,2/PLAN,2/LAYER,0/LAYER,0/"), 9);
+    assert_eq!(number("PLAN,2/RECT,0,0,0,0/LAYER,1/LAYER,0/"), 10);
+}
+
+#[test]
+fn causes_come_in_the_order_of_the_lines() {
+    let mut cells = vec![0, 0, 0, 0];
+    let number =
+        |k, sizes: [u32; 6], cells: &[i32]| Reference.make_order(&Shape { k, sizes }, cells, &mut [0; 9]);
+    assert_eq!(number(1, [u32::MAX; 6], &[1]), 1);
+    assert_eq!(number(7, [0; 6], &[]), 1);
+    assert_eq!(number(2, [513, 0, 0, 0, 0, 0], &[1]), 2);
+    assert_eq!(number(2, [1, 0, 1, 0, 0, 0], &[1]), 2);
+    assert_eq!(number(2, [2, 0, 0, 0, 0, 0], &[2_000_000, 0, 0, 0]), 3);
+    assert_eq!(number(2, [1, 0, 0, 0, 0, 0], &cells), 8);
+    cells[0] = 1;
+    assert_eq!(number(2, [1, 0, 0, 0, 0, 0], &cells), 4);
+}
+
+#[test]
+fn report_of_d() {
+    assert_eq!(report(&text(&plan_d())), spell("ROW,2,0,0,250000/ROW,1,1,0,0/TOTAL,2,4,0.25/"));
+    let spelling = "PLAN,2/LAYER,2/RECT,0,0,1000,1000/RECT,1000,0,2000,500/LAYER,1/RECT,500,500,1500,1500/";
+    assert_eq!(text(&plan_d()), spell(spelling));
+    let mut buffer = vec![1; 100];
+    let length = spelling.len();
+    assert_eq!(Reference.write(&plan_d().shape, &plan_d().cells, &mut buffer), Writing { number: 0, length });
+    assert_eq!((&buffer[..length], &buffer[length..]), (&spell(spelling)[..], &vec![1; 100 - length][..]));
+}
+
+#[test]
+fn square_metres_are_rounded_once() {
+    assert_eq!([4_999, 5_000, 250_000, 999_995_000].map(square_metres), ["0.00", "0.01", "0.25", "1000.00"]);
+    let plan = equal_plan(&[2, 1], [0, 0, 1, 4_999]);
+    assert_eq!(report(&text(&plan)), spell("ROW,1,0,0,4999/ROW,1,1,0,4999/TOTAL,2,4,0.01/"));
+}
+
+#[test]
+fn report_refusals() {
+    assert_eq!(report(b""), spell("REFUSED,9/"));
+    assert_eq!(report(&spell("PLAN,2/")), spell("REFUSED,10/"));
+    assert_eq!(report(&vec![b'x'; 65_536]), spell("REFUSED,9/"));
+    assert_eq!(report(&vec![b'x'; 65_537]), spell("REFUSED,13/"));
+    assert_eq!(report(&text(&equal_plan(&[64, 97], [0, 0, 0, 0]))), spell("REFUSED,7/"));
+    let fits = report(&text(&equal_plan(&[64, 96], [0, 0, 0, 0])));
+    assert!(fits.ends_with(&spell("TOTAL,6144,12288,0.00/")));
+    assert_eq!(report(&spell("PLAN,2/LAYER,0/LAYER,0/")), spell("TOTAL,0,0,0.00/"));
+}
+
+/// Plans of every k and style.
+fn plans() -> Vec<Plan> {
+    let mut seeds = Seeds(99);
+    (0..5 * STYLES * 6).map(|at| seeds.plan(2 + (at % 5) as usize, (at / 5) % STYLES)).collect()
+}
+
+#[test]
+fn the_rows_of_the_walk_are_the_table_in_its_order() {
+    for plan in plans() {
+        let rows = join(&layers_of(&plan.shape, &plan.cells));
+        let k = plan.shape.k as usize;
+        let (told, table) = page(&plan, &fresh(&plan), u32::MAX, rows.len() * k + k);
+        let expected: Vec<u32> = rows.iter().flat_map(|row| row.places[..k].to_vec()).collect();
+        assert_eq!(table[..rows.len() * k], expected);
+        assert_eq!((told.stop, told.rows as usize), (Stop::Ended, rows.len()));
+        let (run, same) = run(&plan, rows.len() * k + k);
+        assert_eq!(
+            (run.rows, run.trials, run.area, same),
+            (told.rows, u64::from(told.trials), told.area, table)
+        );
+    }
+}
+
+#[test]
+fn product_and_loops_find_the_same_rows() {
+    for plan in plans() {
+        let layers = layers_of(&plan.shape, &plan.cells);
+        let (mut a, mut b) = (Vec::new(), Vec::new());
+        each_row_by_product(&layers, &mut |row| a.push(row.to_vec()));
+        each_row_by_loops(&layers, &mut |row| b.push(row.to_vec()));
+        assert_eq!(a, b);
+    }
+}
+
+#[test]
+fn pages_in_any_list_hand_out_the_first_rows() {
+    let mut seeds = Seeds(7);
+    for plan in plans() {
+        let layers = layers_of(&plan.shape, &plan.cells);
+        let (length, k) = (walk_length(&layers), plan.shape.k as usize);
+        let expected: Vec<u32> = join(&layers).iter().flat_map(|row| row.places[..k].to_vec()).collect();
+        let (mut ticket, mut rows, mut trials) = (fresh(&plan), Vec::<u32>::new(), 0);
+        loop {
+            let (told, table) = page(&plan, &ticket, seeds.budget(length), seeds.table_length(k));
+            rows.extend(&table[..told.rows as usize * k]);
+            trials += u64::from(told.trials);
+            ticket = told.ticket;
+            assert_eq!(rows, expected[..rows.len()]);
+            assert_eq!(told.stop == Stop::Ended, trials == length);
+            if told.stop == Stop::Ended {
+                break;
+            }
+        }
+        assert_eq!(rows, expected);
+    }
+}
+
+#[test]
+fn a_text_is_accepted_exactly_when_it_is_written_for_a_plan() {
+    let mut seeds = Seeds(5);
+    for plan in plans() {
+        let good = text(&plan);
+        assert_eq!(
+            read(&good, plan.cells.len()),
+            (Reading { number: 0, shape: plan.shape }, plan.cells.clone())
+        );
+        for _ in 0..200 {
+            let mut other = good.clone();
+            let at = seeds.below(other.len() as u64) as usize;
+            other[at] = seeds.pick(b"0123456789-\t\n");
+            let (reading, mut cells) = read(&other, 12_288);
+            if reading.number == 0 {
+                cells.truncate(4 * reading.shape.sizes.iter().sum::<u32>() as usize);
+                assert_eq!(text(&Plan { shape: reading.shape, cells }), other);
+            }
+        }
+    }
+}
