@@ -1,0 +1,121 @@
+//! Times the library beside hand-written Rust: each call on several plans, the best of some rounds.
+
+#[path = "../../tests/src/bin/library/ffi.rs"]
+#[allow(dead_code)]
+mod ffi;
+mod hand;
+
+use ffi::Library;
+use overlay_tests::call::Plan;
+use overlay_tests::overlay::{Overlay, Stop, Ticket};
+use overlay_tests::seeds::Seeds;
+use std::hint::black_box;
+use std::time::Instant;
+
+/// The shortest of some rounds, in microseconds, each of as many calls as take a few milliseconds.
+fn best(mut call: impl FnMut()) -> f64 {
+    let start = Instant::now();
+    call();
+    let once = start.elapsed().as_secs_f64();
+    let calls = (0.005 / once.max(1e-9)).clamp(1.0, 10_000.0) as u32;
+    let rounds = if once > 0.2 { 3 } else { 9 };
+    (0..rounds)
+        .map(|_| {
+            let start = Instant::now();
+            (0..calls).for_each(|_| call());
+            start.elapsed().as_secs_f64() * 1e6 / calls as f64
+        })
+        .fold(f64::MAX, f64::min)
+}
+
+/// A line of the table: what was done, both times, and their ratio.
+fn tell(plan: &str, call: &str, ours: f64, rust: f64) {
+    println!("{plan:<22} {call:<10} {ours:>12.1} {rust:>12.1} {:>7.2}", ours / rust);
+}
+
+/// Pages from the fresh ticket to the end, by budgets of a given size.
+fn pages(mut page: impl FnMut(&Ticket) -> (Stop, Ticket), fresh: Ticket) {
+    let mut ticket = fresh;
+    loop {
+        let (stop, next) = page(&ticket);
+        if stop == Stop::Ended {
+            break;
+        }
+        ticket = next;
+    }
+}
+
+fn bench(name: &str, plan: &Plan) {
+    let (shape, cells) = (&plan.shape, &plan.cells[..]);
+    let n = cells.len() / 4;
+    let (mut order, mut other) = (vec![0; n], vec![0; n]);
+    assert_eq!(Library.make_order(shape, cells, &mut order), hand::make_order(shape, cells, &mut other));
+    assert_eq!(order, other);
+
+    let (mut table, mut second) = (vec![0; 6_000_000], vec![0; 6_000_000]);
+    let run = Library.run(shape, cells, &order, &mut table);
+    assert_eq!(run, hand::run(shape, cells, &order, &mut second));
+    assert!(run.number == 0 && table == second);
+    let name = format!("{name}, {} rows", run.rows);
+
+    let ours = best(|| { black_box(Library.run(shape, cells, black_box(&order), &mut table)); });
+    let rust = best(|| { black_box(hand::run(shape, cells, black_box(&order), &mut second)); });
+    tell(&name, "run", ours, rust);
+    println!("{:<22} {:<10} {:>12.2} {:>12.2}", "", "ns a trial", ours * 500.0 / run.trials as f64, rust * 500.0 / run.trials as f64);
+
+    let budget = 100_000;
+    let fresh = Library.fresh(shape, cells, &order).1;
+    let ours = best(|| {
+        pages(|t| { let p = Library.page(shape, cells, &order, t, budget, &mut table); (p.stop, p.ticket) }, fresh)
+    });
+    let rust = best(|| {
+        pages(|t| { let p = hand::page(shape, cells, &order, t, budget, &mut second); (p.stop, p.ticket) }, fresh)
+    });
+    tell(&name, "pages", ours, rust);
+
+    let ours = best(|| { black_box(Library.make_order(shape, black_box(cells), &mut order)); });
+    let rust = best(|| { black_box(hand::make_order(shape, black_box(cells), &mut other)); });
+    tell(&name, "order", ours, rust);
+
+    let ours = best(|| { black_box(ffi::is_order(black_box(cells), &order)); });
+    let rust = best(|| { black_box(hand::is_order(black_box(cells), &order)); });
+    tell(&name, "is_order", ours, rust);
+
+    let (mut text, mut copy) = (vec![0; 200_000], vec![0; 200_000]);
+    let size = Library.write(shape, cells, &mut text).length;
+    assert_eq!(size, hand::write(shape, cells, &mut copy).length);
+    assert!(text == copy);
+    let ours = best(|| { black_box(Library.write(shape, black_box(cells), &mut text)); });
+    let rust = best(|| { black_box(hand::write(shape, black_box(cells), &mut copy)); });
+    tell(&name, "write", ours, rust);
+
+    let text = &text[..size];
+    let (mut into, mut also) = (vec![0; 12_288], vec![0; 12_288]);
+    assert_eq!(Library.read(text, &mut into), hand::read(text, &mut also));
+    assert!(into == also);
+    let ours = best(|| { black_box(Library.read(black_box(text), &mut into)); });
+    let rust = best(|| { black_box(hand::read(black_box(text), &mut also)); });
+    tell(&name, "read", ours, rust);
+}
+
+fn main() {
+    println!("{:<22} {:<10} {:>12} {:>12} {:>7}", "plan", "call", "ours, us", "Rust, us", "ratio");
+    let plans: [(&str, usize, u32, i32); 8] = [
+        ("k 2, 64, sparse", 2, 64, 20_000),
+        ("k 2, 512, sparse", 2, 512, 20_000),
+        ("k 2, 512, dense", 2, 512, 1_000_000),
+        ("k 3, 64, medium", 3, 64, 400_000),
+        ("k 3, 512, sparse", 3, 512, 20_000),
+        ("k 3, 512, medium", 3, 512, 200_000),
+        ("k 6, 64, medium", 6, 64, 400_000),
+        ("k 6, 512, sparse", 6, 512, 60_000),
+    ];
+    let mut seeds = Seeds(2026);
+    for (name, k, n, side) in plans {
+        let mut plan = seeds.sparse(&vec![n; k], side);
+        for z in plan.cells.iter_mut() {
+            *z = (*z).min(1_000_000);
+        }
+        bench(name, &plan);
+    }
+}
