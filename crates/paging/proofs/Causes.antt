@@ -69,7 +69,8 @@ call-causes s cells order c table six = record {
     good e = resumes s cells (record { six = six; passed = or-else-zero plan _ e .0 }) c
 
 -- ---- refusals
-stop-none : (h : Halt) → stopNumber (stopOf h) ≡ 0
+-- a page that was made is accepted
+pub stop-none : (h : Halt) → stopNumber (stopOf h) ≡ 0
 stop-none Ended = refl
 stop-none Full = refl
 stop-none Spent = refl
