@@ -6,7 +6,7 @@ use Prim.Native.Nat.{ℕ, _≤_, _<_}
 use native.Mathlib.Omega.{arith}
 use lib.Dec.{T, eqb, leb}
 use borrow.Author.Tests.{leb-true, eqb-true, le-leb, ne-eqb, lt-leb}
-use Rattle.lists.proofs.Tests.{both, total}
+use Rattle.lists.proofs.Tests.{never-true, both, total}
 use Rattle.decimal.specs.declared.Kind.{Kind}
 use Rattle.decimal.specs.declared.Kind.the-variants.{Minus, Zero, Digit, Tab, End, Other}
 use Rattle.decimal.specs.Bytes.{kindOf, isDigit}
@@ -67,3 +67,6 @@ digit-is Digit b e h = omega arith
 digit-is Tab b e h = absurd (subst T (sym e) tt)
 digit-is End b e h = absurd (subst T (sym e) tt)
 digit-is Other b e h = absurd (subst T (sym e) tt)
+
+pub digit-no : (b : ℕ) → ((48 ≤ b) × (b ≤ 57) → ⊥) → isDigit (kindOf b) ≡ false
+digit-no b h = never-true (isDigit (kindOf b)) (λ e. h (digit-is (kindOf b) b e (kind-is b)))

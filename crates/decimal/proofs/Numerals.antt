@@ -11,7 +11,7 @@ use lib.ListN.{length}
 use borrow.Author.Tests.{leb-true, leb-false}
 use Rattle.lists.proofs.Tests.{total}
 use Rattle.decimal.specs.Numerals.{digits, size, decimal, numeral}
-use Rattle.decimal.proofs.Powers.{powers, positive}
+use Rattle.decimal.proofs.Powers.{powers, positive, below-next}
 
 -- n has c + 1 digits; 0 has one
 pub record Sized (c n : ℕ) : Type 0 where
@@ -78,7 +78,7 @@ pub front-sized : (c n : ℕ) → 1 ≤ n / 10 ^ c → n / 10 ^ c < 10 → Sized
 front-sized c n h k =
     record {
       least = omega (arith, rw one-mul at (le-div-iff-mul-le {x = 1} (positive c) .0 h));
-      below = subst (λ (m : ℕ). n < m) (sym (pow-suc 10 c ∙ mul-comm (10 ^ c) 10)) (div-lt-iff-lt-mul (positive c) .0 k);
+      below = below-next n c k;
     }
 
 -- the digits of a number that has c + 1 of them

@@ -1,8 +1,8 @@
 -- The rule of the table of powers: the whole table is computed once, and read at each place by one law.
-use mathlib.Core.Path.{_≡_, sym, ap, _∙_}
+use mathlib.Core.Path.{_≡_, sym, ap, _∙_, subst}
 use mathlib.Core.List.{List, [], _∷_}
 use Prim.Native.Nat.{ℕ, zero, suc, _+_, _/_, _^_, _≤_, _<_}
-use native.Mathlib.Nat.{pow-suc, div-div-eq-div-mul, pow-le-pow-right, one-le-pow, zero-add, one-mul, pos-of-ne-zero, le-div-iff-mul-le, div-lt-iff-lt-mul}
+use native.Mathlib.Nat.{pow-suc, div-div-eq-div-mul, pow-le-pow-right, one-le-pow, zero-add, mul-comm, le-div-iff-mul-le, div-lt-iff-lt-mul}
 use native.Mathlib.Omega.{arith}
 use lib.Dec.{lit<}
 use lib.ListN.{getD}
@@ -30,9 +30,9 @@ powers c d h = pow-le-pow-right (lit< tt) h
 pub positive : (c : ℕ) → 0 < 10 ^ c
 positive c = one-le-pow c 10 (lit< tt)
 
--- n is below a power exactly when dividing by it leaves nothing
-pub below : (n c : ℕ) → n / 10 ^ c ≡ 0 → n < 10 ^ c
-below n c e = rw one-mul at (div-lt-iff-lt-mul {x = n} {y = 1} (positive c) .0 (omega (arith, e)))
+-- n is below the next power, or reaches it, as dividing by this one leaves one digit or more
+pub below-next : (n c : ℕ) → n / 10 ^ c < 10 → n < 10 ^ suc c
+below-next n c k = subst (λ (m : ℕ). n < m) (sym (pow-suc 10 c ∙ mul-comm (10 ^ c) 10)) (div-lt-iff-lt-mul (positive c) .0 k)
 
-pub reaches : (n c : ℕ) → (n / 10 ^ c ≡ 0 → ⊥) → 10 ^ c ≤ n
-reaches n c e = rw one-mul at (le-div-iff-mul-le {x = 1} {y = n} (positive c) .0 (pos-of-ne-zero e))
+pub reaches-next : (n c : ℕ) → 10 ≤ n / 10 ^ c → 10 ^ suc c ≤ n
+reaches-next n c k = subst (λ (m : ℕ). m ≤ n) (sym (pow-suc 10 c ∙ mul-comm (10 ^ c) 10)) (le-div-iff-mul-le (positive c) .0 k)

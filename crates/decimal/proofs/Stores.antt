@@ -1,12 +1,12 @@
 -- Laws of bytes that are put one run behind the other.
 use mathlib.Core.Path.{_≡_, refl, ap, _∙_}
 use mathlib.Core.List.{List, [], _∷_, _++_}
-use Prim.Native.Nat.{ℕ, suc, _+_, _≤_}
+use Prim.Native.Nat.{ℕ, suc, _+_, _≤_, _<_}
 use native.Mathlib.Nat.{zero-add}
 use native.Mathlib.Numerals.{add-one}
 use native.Mathlib.Omega.{arith}
 use lib.ListN.{length, set, drop, length-set, length-append}
-use lib.Seq.{sets, length-sets, sets-eq}
+use lib.Seq.{set-comm, sets, length-sets, sets-eq}
 use Rattle.decimal.specs.Stores.{Put}
 
 module _ {A : Type 0} where
@@ -15,6 +15,12 @@ module _ {A : Type 0} where
   sets-append (x ∷ xs) ys b i =
       let e : i + suc (length xs) ≡ suc i + length xs = omega arith in
       ap (λ (j : ℕ). sets (sets (set b i x) (suc i) xs) j ys) e ∙ sets-append xs ys (set b i x) (suc i)
+
+  -- a cell before a run that has been put
+  pub set-before : (xs b : List A) (i j : ℕ) (x : A) → j < i → set (sets b i xs) j x ≡ sets (set b j x) i xs
+  set-before [] b i j x h = refl
+  set-before (y ∷ xs) b i j x h =
+      set-before xs (set b i y) (suc i) j x (omega arith) ∙ ap (λ (l : List A). sets l (suc i) xs) (set-comm b i j y x (λ e. omega arith))
 
   pub put-length : (buf last cells : List A) (at r : ℕ) → Put buf at cells last r → length last ≡ length buf
   put-length buf last cells at r p = ap length (p .stored) ∙ length-sets buf at cells

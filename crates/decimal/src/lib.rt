@@ -5,7 +5,7 @@ mod table;
 
 ghost use mathlib.Core.Path.{_≡_};
 ghost use mathlib.Core.Bool.{true};
-ghost use Prim.Native.Nat.{_+_, _/_, _%_, _^_, _<_, _≤_};
+ghost use Prim.Native.Nat.{_+_, _<_, _≤_};
 ghost use lib.ListN.{length, drop};
 ghost use lib.IntN.{pos, negℤ, natAbs};
 ghost use Rattle.decimal.specs.Numerals.{size, decimal, numeral, short};
@@ -40,36 +40,46 @@ pub fn size_of(n: u64) -> usize
     ensures { λ r. ⌜ r ≡ size 19 n ⌝ }
 {
     let mut c: usize = 0;
-    while c < 19 {
-        if table::quotient(n, c + 1) == 0 {
+    while c < 18 {
+        if n < table::power(c + 1) {
             return c + 1;
         }
         c += 1;
     }
+    if n / table::power(18) < 10 {
+        return 19;
+    }
     20
 }
 
-// The digit of n at 10^c, as a byte.
-fn digit_at(n: u64, c: usize) -> u8
-    requires { ⌜ c < 20 ⌝ }
-    ensures { λ r. ⌜ r ≡ 48 + n / 10 ^ c % 10 ⌝ }
-{
-    48 + (table::quotient(n, c) % 10) as u8
-}
-
-// The digits of n from a place of the buffer on; the place behind them.
+// The digits of n from a place of the buffer on; the place behind them. The last digit is stored first, so that each
+// step divides by ten alone.
 pub fn put_decimal(buf: &mut [u8], at: usize, n: u64) -> usize
     requires { ⌜ at + length (decimal n) ≤ length (now buf) ⌝ }
     ensures { λ r. ⌜ Put (now (buf .entry)) at (decimal n) (now (buf .exit)) r ⌝ }
 {
-    let mut c = size_of(n);
-    let mut i = at;
-    while 0 < c {
-        c -= 1;
-        buf[i] = digit_at(n, c);
+    let end = at + size_of(n);
+    let mut i = end;
+    let mut m = n;
+    while at < i {
+        i -= 1;
+        buf[i] = 48 + (m % 10) as u8;
+        m /= 10;
+    }
+    end
+}
+
+// A word; the place behind it.
+pub fn put_word(buf: &mut [u8], at: usize, word: &[u8]) -> usize
+    requires { ⌜ at + length (now word) ≤ length (now buf) ⌝ }
+    ensures { λ r. ⌜ Put (now (buf .entry)) at (now (word .entry)) (now (buf .exit)) r ⌝ }
+{
+    let mut i: usize = 0;
+    while i < word.len() {
+        buf[at + i] = word[i];
         i += 1;
     }
-    i
+    at + i
 }
 
 // A number of at most seven digits without its sign.
@@ -126,13 +136,9 @@ fn kind_of(b: u8) -> Kind
 fn is_digit(b: u8) -> bool
     ensures { λ r. ⌜ r ≡ isDigit (kindOf b) ⌝ }
 {
-    match kind_of(b) {
-        Kind::Minus => false,
-        Kind::Zero => true,
-        Kind::Digit => true,
-        Kind::Tab => false,
-        Kind::End => false,
-        Kind::Other => false,
+    match b {
+        b'0'..=b'9' => true,
+        _ => false,
     }
 }
 

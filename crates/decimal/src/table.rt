@@ -1,6 +1,6 @@
 // Powers of ten, from a table.
 ghost use mathlib.Core.Path.{_≡_};
-ghost use Prim.Native.Nat.{_/_, _^_, _<_};
+ghost use Prim.Native.Nat.{_^_, _<_};
 
 // 10^0 to 10^18.
 const POWERS: [u64; 19] = [
@@ -26,20 +26,9 @@ const POWERS: [u64; 19] = [
 ];
 
 // Ten to the power c.
-fn power(c: usize) -> u64
+pub fn power(c: usize) -> u64
     requires { ⌜ c < 19 ⌝ }
     ensures { λ r. ⌜ r ≡ 10 ^ c ⌝ }
 {
     POWERS[c]
-}
-
-// n without its last c digits.
-pub fn quotient(n: u64, c: usize) -> u64
-    requires { ⌜ c < 20 ⌝ }
-    ensures { λ r. ⌜ r ≡ n / 10 ^ c ⌝ }
-{
-    if c < 19 {
-        return n / power(c);
-    }
-    n / power(18) / 10
 }

@@ -48,8 +48,8 @@ pub fn row(shape: Shape, cells: &[i32], places: &[u32]) -> RowAnswer
     row_among(&shape.sizes, shape.k as usize, cells, places)
 }
 
-// The row among the first k layers.
-fn row_among(sizes: &[u32], k: usize, cells: &[i32], row: &[u32]) -> RowAnswer
+// The row among the first k layers of a sound plan.
+pub fn row_among(sizes: &[u32], k: usize, cells: &[i32], row: &[u32]) -> RowAnswer
     requires { ⌜ (k ≤ length (now sizes)) × Framed (take k (now sizes)) (now cells) ⌝ }
     ensures { λ r. ⌜ r ≡ rowAnswer (told (layersOf (take k (now (sizes .entry))) (now (cells .entry))) (now (row .entry))) ⌝ }
 {

@@ -60,7 +60,8 @@ fn size_fits(n: u32, j: usize, k: usize) -> bool
     n == 0
 }
 
-fn sum_of(sizes: &[u32]) -> usize
+// How many rectangles these sizes are.
+pub fn sum_of(sizes: &[u32]) -> usize
     requires { ⌜ length (now sizes) ≤ 6 ⌝ }
     ensures { λ r. ⌜ (r ≡ sum (now (sizes .entry))) × (r ≤ 4294967295 * 6) ⌝ }
 {

@@ -5,6 +5,7 @@ mod checks;
 mod order;
 
 pub use checks::plan_cause;
+pub use checks::sum_of;
 use geometry::Rect;
 pub use order::is_order;
 ghost use mathlib.Core.Path.{_≡_};

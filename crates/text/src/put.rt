@@ -1,6 +1,7 @@
 // Lines, put into a buffer at a place.
 use decimal::put_decimal;
 use decimal::put_number;
+use decimal::put_word;
 use geometry::Rect;
 use plan::Shape;
 use plan::layer_cells;
@@ -18,19 +19,6 @@ ghost use Rattle.decimal.specs.Stores.{Put};
 ghost use Rattle.text.specs.declared.Line.the-variants.{Layer, Rectangle};
 ghost use Rattle.text.specs.Lines.{put, spellTo, spell, shortRect, allShort};
 ghost use Rattle.text.specs.Plans.{rectLines, layerLines, textOf};
-
-// A word; the place behind it.
-fn put_word(buf: &mut [u8], at: usize, word: &[u8]) -> usize
-    requires { ⌜ at + length (now word) ≤ length (now buf) ⌝ }
-    ensures { λ r. ⌜ Put (now (buf .entry)) at (now (word .entry)) (now (buf .exit)) r ⌝ }
-{
-    let mut i: usize = 0;
-    while i < word.len() {
-        buf[at + i] = word[i];
-        i += 1;
-    }
-    at + i
-}
 
 // A line of a word and a number; the place behind it.
 fn put_count(buf: &mut [u8], at: usize, word: &[u8], n: u32) -> usize

@@ -1,77 +1,115 @@
--- `put_decimal` stores a number's digits. The loop's invariant: c digits are left to be stored, from i on. The measure is c.
-use mathlib.Core.Path.{_≡_}
-use mathlib.Core.List.{List, _∷_}
+-- `put_decimal` stores a number's digits, the last one first. The loop's invariant: the digits from i to the end are stored, and m is what stands before them.
+-- The measure is i.
+use mathlib.Core.Path.{_≡_, sym, ap, _∙_}
+use mathlib.Core.List.{List}
 use Prim.Native.Nat.{ℕ, zero, suc, _+_, _-_, _/_, _%_, _^_, _≤_, _<_}
+use native.Mathlib.Nat.{div-one}
 use native.Mathlib.Omega.{arith}
+use lib.ListN.{length, set}
+use lib.Seq.{sets, length-sets}
 use denote.Ref.{now}
 use borrow.Author.Needs.{needs}
 use Rattle.decimal.specs.Numerals.{digits, size, decimal}
 use Rattle.decimal.specs.Stores.{Put}
-use Rattle.decimal.proofs.Numerals.{length-digits, length-decimal, size-most}
-use Rattle.decimal.proofs.Stores.{Left, left-all, left-byte, left-none}
+use Rattle.decimal.proofs.Powers.{tenfold}
+use Rattle.decimal.proofs.Numerals.{length-decimal}
+use Rattle.decimal.proofs.Stores.{set-before}
 use Rattle.decimal.proofs.put_decimal.Statement.{statement}
 use Rattle.decimal.proofs.put_decimal.Tie as tie
 
+record Stored (first : List ℕ) (n end : ℕ) (buf : List ℕ) (i m : ℕ) : Type 0 where
+  pub inside : i ≤ end
+  pub rest : m ≡ n / 10 ^ (end - i)
+  pub is : buf ≡ sets first i (digits (end - i) n)
+
 abbrev Inv-loop : tie.InvT-loop
-Inv-loop buf₀ at n c₀ i₀ buf c i = (c ≤ 20) × Left buf₀ at (digits c₀ n) buf i (digits c n)
+Inv-loop buf₀ at n end i₀ m₀ buf i m = (at ≤ i) × Stored buf₀ n end buf i m
 
 abbrev μ-loop : tie.MeasureT-loop
-μ-loop buf₀ at n c₀ i₀ buf c i = c
+μ-loop buf₀ at n end i₀ m₀ buf i m = i
 
--- one digit, and the others behind it
-next-digit : (n c d : ℕ) → 0 < c → d ≡ 48 + n / 10 ^ (c - 1) % 10 → digits c n ≡ d ∷ digits (c - 1) n
-next-digit n zero d h e = absurd (omega arith)
-next-digit n (suc c) d h e = let z : suc c - 1 ≡ c = omega arith in rw (z, rw z at e)
+long : (first : List ℕ) (n end : ℕ) (buf : List ℕ) (i m : ℕ) → Stored first n end buf i m → length buf ≡ length first
+long first n end buf i m h = ap length (h .is) ∙ length-sets first i (digits (end - i) n)
 
-done : (buf₀ : List ℕ) (at n c₀ : ℕ) (buf : List ℕ) (c i : ℕ) → c₀ ≡ size 19 n → c ≤ 0 → Left buf₀ at (digits c₀ n) buf i (digits c n) → Put buf₀ at (decimal n) buf i
+none-yet : (first : List ℕ) (n end : ℕ) → Stored first n end first end n
+none-yet first n end =
+    let z : end - end ≡ 0 = omega arith in
+    record { inside = omega arith; rest = rw z (sym (div-one n)); is = rw z }
+
+one-more : (first : List ℕ) (n end : ℕ) (buf : List ℕ) (i m : ℕ) → 0 < i → Stored first n end buf i m → Stored first n end (set buf (i - 1) (48 + m % 10)) (i - 1) (m / 10)
+one-more first n end buf zero m g h = absurd (omega arith)
+one-more first n end buf (suc j) m g h =
+    let d = end - suc j in
+    let i : suc j - 1 ≡ j = omega arith in
+    let z : end - j ≡ suc d = omega (arith, h .inside) in
+    rw i
+    (record {
+      inside = omega (arith, h .inside);
+      rest = rw (z, h .rest) (sym (tenfold n d));
+      is = rw (z, h .is, h .rest) (set-before (digits d n) first (suc j) j (48 + n / 10 ^ d % 10) (omega arith));
+    })
+
+all-stored : (first : List ℕ) (at n : ℕ) (buf : List ℕ) (i m : ℕ) → at ≤ i → i ≤ at → Stored first n (at + size 19 n) buf i m → Put first at (decimal n) buf (at + size 19 n)
 unfolding decimal
-done buf₀ at n c₀ buf c i e h l =
-    let z : c ≡ 0 = omega arith in
-    left-none buf₀ at (digits (size 19 n) n) buf i (rw (z, e) at l)
+all-stored first at n buf i m l g h =
+    let e : i ≡ at = omega arith in
+    let z : at + size 19 n - i ≡ size 19 n = omega arith in
+    record { place = ap (λ (k : ℕ). at + k) (sym (length-decimal n)); stored = h .is ∙ rw (z, e) }
 
 size-of-requires : tie.Need-size-of-requires Inv-loop μ-loop
 size-of-requires c κs = search needs
 
+add-end : tie.Need-add-end Inv-loop μ-loop
+add-end c = omega (arith, c .size-of .ensures, length-decimal (c .before .before .args .n))
+
 loop-holds : tie.Need-loop-holds Inv-loop μ-loop
-loop-holds c =
-    (omega (arith, size-most 19 (c .before .before .args .n), c .size-of .ensures), left-all _ _ _)
+loop-holds c = (omega arith, none-yet _ _ _)
 
-sub-c : tie.Need-sub-c Inv-loop μ-loop
-sub-c c = omega arith
+sub-i : tie.Need-sub-i Inv-loop μ-loop
+sub-i c = omega arith
 
-digit-at-requires : tie.Need-digit-at-requires Inv-loop μ-loop
-digit-at-requires c κs = omega arith
+cast-buf : tie.Need-cast-buf Inv-loop μ-loop
+cast-buf c = omega arith
+
+add-buf : tie.Need-add-buf Inv-loop μ-loop
+add-buf c = omega arith
 
 slice-write-buf : tie.Need-slice-write-buf Inv-loop μ-loop
 slice-write-buf c =
-    let n = c .before .before .before .before .before .args .n in
-    omega (arith, length-decimal n, length-digits (c .before .before .before .size-of .result) n, length-digits (c .before .before .loop .c) n)
-
-add-i : tie.Need-add-i Inv-loop μ-loop
-add-i c =
-    let n = c .before .before .before .before .before .args .n in
-    omega (arith, length-decimal n, length-digits (c .before .before .before .size-of .result) n, length-digits (c .before .before .loop .c) n)
+    let a = c .before .before .before .before .args in
+    omega (arith, long _ _ _ _ _ _ (c .before .loop .inv .1), c .before .loop .inv .1 .inside, length-decimal (a .n), c .before .before .size-of .ensures)
 
 loop-less : tie.Need-loop-less Inv-loop μ-loop
 loop-less c = omega arith
 
 loop-again : tie.Need-loop-again Inv-loop μ-loop
 loop-again c =
-    let n = c .before .before .before .before .before .args .n in
-    let l = c .before .before .loop in
-    let e = next-digit n (l .c) (c .digit-at .result) (omega arith) (c .digit-at .ensures) in
-    (omega arith, left-byte _ _ _ (l .buf) (l .i) (c .digit-at .result) _ (rw e at (l .inv .1)))
+    let l = c .before .loop in
+    (omega arith, one-more _ _ _ (l .buf) (l .i) (l .m) (omega arith) (l .inv .1))
 
 same-length : tie.Need-same-length Inv-loop μ-loop
-same-length c = c .before .loop .inv .1 .long
+same-length c = long _ _ _ _ _ _ (c .before .loop .inv .1)
 
 returns : tie.Need-returns Inv-loop μ-loop
 returns c =
     let a = c .before .before .before .before .args in
     let l = c .before .loop in
-    done (now (a .buf)) (a .at) (a .n) (c .before .before .size-of .result) (l .buf) (l .c) (l .i) (c .before .before .size-of .ensures) (omega arith) (l .inv .1)
+    rw (c .before .before .size-of .ensures) (all-stored (now (a .buf)) (a .at) (a .n) (l .buf) (l .i) (l .m) (omega arith) (omega arith) (rw (c .before .before .size-of .ensures) at (l .inv .1)))
 
 pub put-decimal-spec : {M : Type 1} → statement M
 put-decimal-spec =
     tie.close
-    (tie.spec Inv-loop μ-loop size-of-requires loop-holds sub-c digit-at-requires slice-write-buf add-i loop-less loop-again same-length returns)
+    (tie.spec
+    Inv-loop
+    μ-loop
+    size-of-requires
+    add-end
+    loop-holds
+    sub-i
+    cast-buf
+    add-buf
+    slice-write-buf
+    loop-less
+    loop-again
+    same-length
+    returns)

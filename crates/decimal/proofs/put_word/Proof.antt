@@ -5,11 +5,11 @@ use Prim.Native.Nat.{ℕ, _+_, _-_, _≤_, _<_}
 use native.Mathlib.Omega.{arith}
 use lib.ListN.{length, getD, set, drop, drop-of-length-le}
 use denote.Ref.{now}
 use Rattle.decimal.specs.Stores.{Put}
 use Rattle.decimal.proofs.Stores.{Left, left-all, left-byte, left-none}
 use Rattle.decimal.proofs.Places.{at-byte}
-use Rattle.text.proofs.put.put_word.Statement.{statement}
-use Rattle.text.proofs.put.put_word.Tie as tie
+use Rattle.decimal.proofs.put_word.Statement.{statement}
+use Rattle.decimal.proofs.put_word.Tie as tie
 
 abbrev Inv-loop : tie.InvT-loop
 Inv-loop buf₀ at word i₀ buf i = (i ≤ length word) × Left buf₀ at word buf (at + i) (drop i word)

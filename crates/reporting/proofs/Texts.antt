@@ -1,0 +1,93 @@
+-- Laws of the report on a text: the causes that refuse it, and the plan that it gives.
+use mathlib.Core.Path.{_≡_, refl, sym, ap, _∙_}
+use mathlib.Core.Logic.{_⊎_, inl, inr}
+use mathlib.Core.List.{List, _++_}
+use Prim.Native.Nat.{ℕ, zero, suc, _*_, _≤_, _<_}
+use native.Mathlib.Omega.{arith}
+use lib.IntN.{ℤ}
+use lib.ListN.{length, take, drop, length-append, length-take}
+use lib.Seq.{take-at}
+use borrow.Author.Tests.{le-leb, lt-leb}
+use Rattle.lists.specs.Lists.{sum}
+use Rattle.lists.proofs.Tests.{total}
+use Rattle.plan.specs.declared.Shape.{Shape}
+use Rattle.plan.specs.Causes.{onCause, _orElse_}
+use Rattle.plan.specs.Plan.{Sound}
+use Rattle.text.specs.declared.Reading.{Reading}
+use Rattle.text.specs.Reader.{readCause, textShape, textCells, readAnswer, cellsAfter}
+use Rattle.text.proofs.Theorems.{round-trip}
+use Rattle.decimal.specs.Stores.{Put}
+use Rattle.decimal.proofs.Stores.{put-start, put-length}
+use Rattle.reporting.specs.Lines.{refusedLine}
+use Rattle.reporting.specs.Report.{reportOf, reportCause, tableLines, longest, printed, outAfter}
+use Rattle.reporting.specs.Parts.{planReport}
+use Rattle.reporting.proofs.Printing.{refused-few}
+use Rattle.reporting.proofs.Reports.{plan-longest}
+
+pub long-text : (t : List ℕ) → 65536 < length t → reportOf t ≡ refusedLine 13
+unfolding reportOf reportCause
+long-text t h = rw (lt-leb (length t) 65536 h)
+
+module _ (t : List ℕ) (short : length t ≤ 65536) where
+  pub refused-text : (n : ℕ) → n ≡ readCause 12288 t → (n ≡ 0 → ⊥) → reportOf t ≡ refusedLine n
+  unfolding reportOf reportCause
+  refused-text zero e h = absurd (h refl)
+  refused-text (suc n) e h = rw (le-leb (length t) 65536 short, ← e)
+
+  pub plan-text : readCause 12288 t ≡ 0 → reportOf t ≡ planReport (textShape t) (textCells t)
+  unfolding reportOf reportCause planReport
+  plan-text e = rw (le-leb (length t) 65536 short, e)
+
+pub shape-given : (t : List ℕ) (r : Reading) → r ≡ readAnswer 12288 t → readCause 12288 t ≡ 0 → r .shape ≡ textShape t
+shape-given t r e z = ap (λ (x : Reading). x .shape) e ∙ rw z
+
+-- no report is longer
+pub never-longer : (t : List ℕ) → length (reportOf t) ≤ longest
+never-longer t = go (total (length t) 65536)
+  where
+    read : length t ≤ 65536 → (n : ℕ) → n ≡ readCause 12288 t → length (reportOf t) ≤ longest
+    read h zero e = rw (plan-text t h (sym e)) (plan-longest (textShape t) (textCells t) (round-trip .only 12288 t (sym e) .sound))
+    read h (suc n) e = rw (refused-text t h (suc n) e (λ z. omega (arith, z))) (omega (arith, refused-few (suc n)))
+
+    go : (length t ≤ 65536) ⊎ (65536 < length t) → length (reportOf t) ≤ longest
+    go (inl h) = read h (readCause 12288 t) refl
+    go (inr h) = rw (long-text t h) (omega (arith, refused-few 13))
+
+-- the plan that an accepted text gives, in cells
+pub record Given (t : List ℕ) (s : Shape) (cells : List ℤ) : Type 0 where
+  pub fits : 4 * sum (s .sizes) ≤ length cells
+  pub sound : Sound s (take (4 * sum (s .sizes)) cells)
+  pub is : planReport s (take (4 * sum (s .sizes)) cells) ≡ planReport (textShape t) (textCells t)
+
+pub given : (t : List ℕ) (cells after : List ℤ) (s : Shape) → readCause 12288 t ≡ 0 → length cells ≡ 12288 → s ≡ textShape t → after ≡ cellsAfter t cells → Given t s after
+given t cells after s e long f g =
+    let p = round-trip .only 12288 t e in
+    let rest = drop (length (textCells t)) cells in
+    let a : after ≡ textCells t ++ rest = g ∙ rw (long, e) in
+    let front = take-at (textCells t) rest (4 * sum (textShape t .sizes)) (p .four) in
+    rw (f, a)
+    (record {
+      fits = omega (arith, p .four, length-append (textCells t) rest);
+      sound = rw front (p .sound);
+      is = rw front;
+    })
+
+-- ---- the buffer
+-- r bytes stand at its start, said twice, so that the part that they are can be lent
+abbrev Inside : ℕ → List ℕ → Type 0
+Inside r out = (r ≤ length out) × (r ≡ length (take r out))
+
+inside : (r : ℕ) (out : List ℕ) → r ≤ length out → Inside r out
+inside r out h = (h, omega (arith, length-take r out))
+
+pub printed-none : (t out : List ℕ) → length out < longest → (0 ≡ length (printed (length out) t)) × ((out ≡ outAfter t out) × Inside 0 out)
+unfolding printed
+printed-none t out h = rw (lt-leb longest (length out) h) (refl, (refl, inside 0 out (omega arith)))
+
+pub printed-all : (t out last : List ℕ) (r : ℕ) → longest ≤ length out → Put out 0 (reportOf t) last r
+    → (r ≡ length (printed (length out) t)) × ((last ≡ outAfter t out) × Inside r last)
+unfolding printed
+printed-all t out last r h p =
+    let e = put-start out last (reportOf t) r (omega (arith, never-longer t)) p in
+    let l = put-length out last (reportOf t) 0 r p in
+    rw (le-leb longest (length out) h) (omega (arith, p .place), (e, inside r last (omega (arith, p .place, l, never-longer t))))

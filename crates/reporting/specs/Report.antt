@@ -1,0 +1,48 @@
+-- What the report program prints for a text (01, "The report").
+use mathlib.Core.List.{List, [], _++_}
+use mathlib.Core.Bool.{cond}
+use Prim.Native.Nat.{ℕ}
+use lib.Dec.{leb}
+use lib.IntN.{ℤ}
+use lib.ListN.{length, drop, replicate}
+use Rattle.plan.specs.declared.Shape.{Shape}
+use Rattle.plan.specs.Causes.{unless, _orElse_, onCause}
+use Rattle.plan.specs.Plan.{layers}
+use Rattle.plan.specs.Sweep.{sweepOrder}
+use Rattle.join.specs.Table.{tableOf}
+use Rattle.paging.specs.Calls.{RunValues, runCause, runCall}
+use Rattle.text.specs.Reader.{readCause, textShape, textCells}
+use Rattle.reporting.specs.Lines.{rowLines, totalLine, refusedLine}
+
+-- 01: "makes a whole run into 12,288 cells"
+unfoldable pub lent : List ℕ
+lent = replicate 12288 0
+
+-- the whole run of a plan, in its sweep order
+abbrev pub planRun : Shape → List ℤ → RunValues
+planRun s cells = runCall s cells (sweepOrder cells) lent
+
+-- 01: the lines of all rows; "Last comes TOTAL"
+abbrev pub tableLines : Shape → List ℤ → List ℕ
+tableLines s cells = let v = planRun s cells in rowLines (layers s cells) (tableOf s cells) ++ totalLine (v .rows) (v .probes) (v .area)
+
+-- 13, "input above 65,536 bytes", comes "before all others"; then the reader's causes, where as many cells are lent as any plan has; then those of the whole run
+unfoldable pub reportCause : List ℕ → ℕ
+reportCause t =
+    unless (leb (length t) 65536) 13 orElse readCause 12288 t orElse runCause (textShape t) (textCells t) (sweepOrder (textCells t)) lent
+
+-- what is printed for a text
+unfoldable pub reportOf : List ℕ → List ℕ
+reportOf t = onCause (reportCause t) (tableLines (textShape t) (textCells t)) refusedLine
+
+-- no report is longer
+abbrev pub longest : ℕ
+longest = 655360
+
+-- what is put into a buffer of `room` bytes: nothing where there is not room for every report
+unfoldable pub printed : ℕ → List ℕ → List ℕ
+printed room t = cond (leb longest room) (reportOf t) []
+
+-- the buffer afterwards: what is printed stands at its start, the rest is kept
+abbrev pub outAfter : List ℕ → List ℕ → List ℕ
+outAfter t out = let p = printed (length out) t in p ++ drop (length p) out
