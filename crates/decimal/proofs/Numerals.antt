@@ -2,13 +2,14 @@
 use mathlib.Core.Path.{_≡_, refl, sym, ap, _∙_, subst}
 use mathlib.Core.Bool.{Bool, true, false, cond}
 use mathlib.Core.Logic.{_⊎_, inl, inr}
-use Prim.Native.Nat.{ℕ, zero, suc, _/_, _^_, _≤_, _<_, max}
+use Prim.Native.Nat.{ℕ, zero, suc, _+_, _/_, _^_, _≤_, _<_, max}
 use native.Mathlib.Nat.{le-refl, pow-suc, le-div-iff-mul-le, div-lt-iff-lt-mul, mul-comm, one-mul}
+use native.Mathlib.Numerals.{add-one}
 use native.Mathlib.Omega.{arith}
 use lib.Dec.{leb}
 use lib.IntN.{ℤ, pos, negsuc}
 use lib.ListN.{length}
-use borrow.Author.Tests.{leb-true, leb-false}
+use borrow.Author.Tests.{leb-true, leb-false, le-leb}
 use Rattle.lists.proofs.Tests.{total}
 use Rattle.decimal.specs.Numerals.{digits, size, decimal, numeral}
 use Rattle.decimal.proofs.Powers.{powers, positive, below-next}
@@ -46,6 +47,14 @@ size-is (suc m) c n h s = go (leb (10 ^ suc m) n) refl (λ l. size-is m c n l s)
         low : (c ≤ m) ⊎ (m < c) → size m n ≡ suc c
         low (inl l) = f l
         low (inr l) = absurd (omega (arith, powers (suc m) c l, powers 1 (suc m) (omega arith), s .least, leb-false (10 ^ suc m) n e))
+
+-- n is told by the powers that it lies between; 10^19 and above have twenty digits
+pub size-low : (n c : ℕ) → c < 19 → 10 ^ c ≤ max n 1 → n < 10 ^ (c + 1) → c + 1 ≡ size 19 n
+size-low n c h l k = add-one c ∙ sym (size-is 19 c n (omega arith) (record { least = l; below = rw add-one at k }))
+
+pub size-last : (n : ℕ) → 10 ^ 19 ≤ n → 20 ≡ size 19 n
+unfolding size
+size-last n h = rw (le-leb (10 ^ 19) n h)
 
 -- as many digits as are asked for, and never more than there are powers
 pub length-digits : (c n : ℕ) → length (digits c n) ≡ c

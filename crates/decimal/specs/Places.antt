@@ -2,9 +2,10 @@
 use mathlib.Core.Path.{_≡_}
 use mathlib.Core.List.{List, [], _∷_}
 use mathlib.Core.Option.{none, some}
-use mathlib.Core.Bool.{Bool, false}
+use mathlib.Core.Bool.{Bool, true, false}
 use Prim.Native.Nat.{ℕ, _-_, _≤_, _<_}
-use lib.IntN.{ℤ}
+use lib.Dec.{eqb}
+use lib.IntN.{ℤ, pos, negℤ}
 use lib.ListN.{length, drop}
 use Rattle.decimal.specs.declared.Number.{Number}
 use Rattle.decimal.specs.declared.Number.the-variants.{Value, Bad}
@@ -16,6 +17,11 @@ use Rattle.decimal.specs.Reading.{Reading, more, magnitude, number}
 abbrev pub digitNext : List ℕ → Bool
 digitNext [] = false
 digitNext (b ∷ t) = isDigit (kindOf b)
+
+-- a minus comes next
+abbrev pub minusNext : List ℕ → Bool
+minusNext [] = false
+minusNext (b ∷ t) = eqb b 45
 
 -- the number and the place behind it, in a text of n bytes
 abbrev pub placed : ℕ → Reading ℤ → Number
@@ -29,6 +35,21 @@ numberFrom s at = placed (length s) (number (drop at s))
 -- the number below 0 whose minus stands before a place
 unfoldable pub magnitudeFrom : List ℕ → ℕ → Number
 magnitudeFrom s at = placed (length s) (magnitude (drop at s))
+
+-- the number whose first digit stands at a place, behind its minus or without one
+abbrev pub digitsFrom : Bool → List ℕ → ℕ → Number
+digitsFrom true s at = magnitudeFrom s at
+digitsFrom false s at = numberFrom s at
+
+-- a magnitude with its sign
+abbrev pub sign : Bool → ℕ → ℤ
+sign true n = negℤ (pos n)
+sign false n = pos n
+
+-- the number 0, which ends at a place: no minus stands before it
+abbrev pub zeroAt : Bool → ℕ → Number
+zeroAt true next = Bad
+zeroAt false next = Value (pos 0) next
 
 -- `value` and `next` are what up to six digits more give behind `first`, from `at` on
 pub record MoreFrom (s : List ℕ) (at first : ℕ) (r : Digits) : Type 0 where

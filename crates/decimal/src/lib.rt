@@ -3,14 +3,15 @@
 // one table, through one function.
 mod table;
 
+use table::power;
 ghost use mathlib.Core.Path.{_≡_};
-ghost use mathlib.Core.Bool.{true};
-ghost use Prim.Native.Nat.{_+_, _<_, _≤_};
+ghost use mathlib.Core.Bool.{true, false};
+ghost use Prim.Native.Nat.{_+_, _^_, _<_, _≤_};
 ghost use lib.ListN.{length, drop};
-ghost use lib.IntN.{pos, negℤ, natAbs};
+ghost use lib.IntN.{natAbs};
 ghost use Rattle.decimal.specs.Numerals.{size, decimal, numeral, short};
 ghost use Rattle.decimal.specs.Bytes.{kindOf, isDigit};
-ghost use Rattle.decimal.specs.Places.{digitNext, MoreFrom, magnitudeFrom, numberFrom};
+ghost use Rattle.decimal.specs.Places.{digitNext, minusNext, MoreFrom, sign, zeroAt, digitsFrom, numberFrom};
 ghost use Rattle.decimal.specs.Stores.{Put};
 
 // What a byte of a number is, by its range.
@@ -35,18 +36,47 @@ pub struct Digits {
     pub next: usize,
 }
 
-// How many digits n has.
+// How many digits n has. Up to seven, which no number of a plan exceeds, are told without a loop.
 pub fn size_of(n: u64) -> usize
     ensures { λ r. ⌜ r ≡ size 19 n ⌝ }
 {
-    let mut c: usize = 0;
+    if n < power(1) {
+        return 1;
+    }
+    if n < power(2) {
+        return 2;
+    }
+    if n < power(3) {
+        return 3;
+    }
+    if n < power(4) {
+        return 4;
+    }
+    if n < power(5) {
+        return 5;
+    }
+    if n < power(6) {
+        return 6;
+    }
+    if n < power(7) {
+        return 7;
+    }
+    size_from(n, 7)
+}
+
+// How many digits n has, which are more than `least`.
+fn size_from(n: u64, least: usize) -> usize
+    requires { ⌜ (least ≤ 18) × (10 ^ least ≤ n) ⌝ }
+    ensures { λ r. ⌜ r ≡ size 19 n ⌝ }
+{
+    let mut c = least;
     while c < 18 {
-        if n < table::power(c + 1) {
+        if n < power(c + 1) {
             return c + 1;
         }
         c += 1;
     }
-    if n / table::power(18) < 10 {
+    if n / power(18) < 10 {
         return 19;
     }
     20
@@ -171,25 +201,40 @@ fn more_digits(s: &[u8], at: usize, first: u32) -> Digits
     Digits { value, next: i }
 }
 
-// A magnitude as a number above 0.
-fn plus(n: u32) -> i32
+// A magnitude as a number above 0, or below it.
+fn signed(n: u32, minus: bool) -> i32
     requires { ⌜ n < 10000000 ⌝ }
-    ensures { λ r. ⌜ r ≡ pos n ⌝ }
+    ensures { λ r. ⌜ r ≡ sign minus n ⌝ }
 {
+    if minus {
+        return 0 - (n as i32);
+    }
     n as i32
 }
 
-// A magnitude as a number below 0.
-fn minus(n: u32) -> i32
-    requires { ⌜ n < 10000000 ⌝ }
-    ensures { λ r. ⌜ r ≡ negℤ (pos n) ⌝ }
+// Whether a minus stands at a place.
+fn minus_next(s: &[u8], i: usize) -> bool
+    ensures { λ r. ⌜ r ≡ minusNext (drop i (now (s .entry))) ⌝ }
 {
-    0 - (n as i32)
+    if i < s.len() {
+        return s[i] == b'-';
+    }
+    false
 }
 
-// The number whose minus stands before a place.
-fn read_magnitude(s: &[u8], at: usize) -> Number
-    ensures { λ r. ⌜ r ≡ magnitudeFrom (now (s .entry)) at ⌝ }
+// The number at a place.
+pub fn read_number(s: &[u8], at: usize) -> Number
+    ensures { λ r. ⌜ r ≡ numberFrom (now (s .entry)) at ⌝ }
+{
+    let minus = minus_next(s, at);
+    let i = if minus { at + 1 } else { at };
+    read_digits(s, i, minus)
+}
+
+// The number whose first digit stands at a place, behind its minus or without one.
+fn read_digits(s: &[u8], at: usize, minus: bool) -> Number
+    requires { ⌜ (minus ≡ false → minusNext (drop at (now s)) ≡ false) ⌝ }
+    ensures { λ r. ⌜ r ≡ digitsFrom minus (now (s .entry)) at ⌝ }
 {
     if s.len() <= at {
         return Number::Bad;
@@ -197,10 +242,10 @@ fn read_magnitude(s: &[u8], at: usize) -> Number
     let b = s[at];
     match kind_of(b) {
         Kind::Minus => Number::Bad,
-        Kind::Zero => Number::Bad,
+        Kind::Zero => zero_at(at, minus),
         Kind::Digit => {
             let d = more_digits(s, at + 1, (b - 48) as u32);
-            Number::Value(minus(d.value), d.next)
+            Number::Value(signed(d.value, minus), d.next)
         }
         Kind::Tab => Number::Bad,
         Kind::End => Number::Bad,
@@ -208,23 +253,13 @@ fn read_magnitude(s: &[u8], at: usize) -> Number
     }
 }
 
-// The number at a place.
-pub fn read_number(s: &[u8], at: usize) -> Number
-    ensures { λ r. ⌜ r ≡ numberFrom (now (s .entry)) at ⌝ }
+// The number 0 at a place, which no minus stands before.
+fn zero_at(at: usize, minus: bool) -> Number
+    requires { ⌜ at < 18446744073709551615 ⌝ }
+    ensures { λ r. ⌜ r ≡ zeroAt minus (at + 1) ⌝ }
 {
-    if s.len() <= at {
+    if minus {
         return Number::Bad;
     }
-    let b = s[at];
-    match kind_of(b) {
-        Kind::Minus => read_magnitude(s, at + 1),
-        Kind::Zero => Number::Value(0, at + 1),
-        Kind::Digit => {
-            let d = more_digits(s, at + 1, (b - 48) as u32);
-            Number::Value(plus(d.value), d.next)
-        }
-        Kind::Tab => Number::Bad,
-        Kind::End => Number::Bad,
-        Kind::Other => Number::Bad,
-    }
+    Number::Value(0, at + 1)
 }

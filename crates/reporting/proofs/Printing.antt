@@ -10,22 +10,22 @@ use Rattle.decimal.proofs.Numerals.{length-decimal, size-most}
 use Rattle.plan.specs.Plan.{Layer}
 use Rattle.join.specs.Join.{rects, areaIn, guardLayer}
 use Rattle.paging.specs.Calls.{cellsOf}
-use Rattle.reporting.specs.Lines.{fields, ROW, TOTAL, REFUSED, rowFields, line, rowLine, rowLines, hundredths, metres, totalLine, refusedLine}
+use Rattle.reporting.specs.Lines.{fieldsEnd, ROW, TOTAL, REFUSED, rowFields, line, rowLine, rowLines, hundredths, squareMetres, totalLine, refusedLine}
 use Rattle.reporting.specs.Parts.{tabbed}
 
 -- ---- parts
-numbers-first : (ns : List ℕ) (fs : List (List ℕ)) → fields (map decimal ns ++ fs) ≡ tabbed ns ++ fields fs
+numbers-first : (ns : List ℕ) (fs : List (List ℕ)) → fieldsEnd (map decimal ns ++ fs) ≡ tabbed ns ++ fieldsEnd fs
 numbers-first [] fs = refl
 numbers-first (n ∷ ns) fs =
-    ap (λ (l : List ℕ). 9 ∷ l) (ap (λ (l : List ℕ). decimal n ++ l) (numbers-first ns fs) ∙ sym (append-assoc (decimal n) (tabbed ns) (fields fs)))
+    ap (λ (l : List ℕ). 9 ∷ l) (ap (λ (l : List ℕ). decimal n ++ l) (numbers-first ns fs) ∙ sym (append-assoc (decimal n) (tabbed ns) (fieldsEnd fs)))
 
 pub row-parts : (layer : ℕ) (row : List ℕ) (area : ℕ)
     → line ROW (rowFields layer row area) ≡ ROW ++ ((9 ∷ decimal layer) ++ (tabbed row ++ ((9 ∷ decimal area) ++ 10 ∷ [])))
 unfolding line rowFields
 row-parts layer row area = ap (λ (l : List ℕ). ROW ++ ((9 ∷ decimal layer) ++ l)) (numbers-first row (decimal area ∷ []))
 
-pub metres-parts : (h : ℕ) → metres h ≡ decimal (h / 100) ++ 46 ∷ (48 + h / 10 % 10) ∷ (48 + h % 10) ∷ []
-unfolding metres
+pub metres-parts : (h : ℕ) → squareMetres h ≡ decimal (h / 100) ++ 46 ∷ (48 + h / 10 % 10) ∷ (48 + h % 10) ∷ []
+unfolding squareMetres
 metres-parts h = ap (λ (n : ℕ). decimal (h / 100) ++ 46 ∷ (48 + h / 10 % 10) ∷ (48 + n % 10) ∷ []) (div-one h)
 
 -- ---- lengths: no number has more than twenty digits
@@ -58,7 +58,7 @@ rows-few ls (row ∷ rows) =
       rows-few ls rows,
     )
 
-metres-few : (h : ℕ) → length (metres h) ≤ 23
+metres-few : (h : ℕ) → length (squareMetres h) ≤ 23
 metres-few h =
     rw (metres-parts h) (omega (arith, length-append (decimal (h / 100)) (46 ∷ (48 + h / 10 % 10) ∷ (48 + h % 10) ∷ []), few (h / 100)))
 
@@ -66,10 +66,10 @@ pub total-few : (rows probes area : ℕ) → length (totalLine rows probes area)
 unfolding line
 total-few rows probes area =
     let h = hundredths area in
-    let last = fields (metres h ∷ []) in
-    let a : length last ≤ 25 = field-few (metres h) (10 ∷ []) 23 1 (metres-few h) (omega arith) in
+    let last = fieldsEnd (squareMetres h ∷ []) in
+    let a : length last ≤ 25 = field-few (squareMetres h) (10 ∷ []) 23 1 (metres-few h) (omega arith) in
     let b = field-few (decimal probes) last 20 25 (few probes) a in
-    omega (arith, field-few (decimal rows) (fields (decimal probes ∷ metres h ∷ [])) 20 46 (few rows) b)
+    omega (arith, field-few (decimal rows) (fieldsEnd (decimal probes ∷ squareMetres h ∷ [])) 20 46 (few rows) b)
 
 pub refused-few : (cause : ℕ) → length (refusedLine cause) ≤ 29
 unfolding line

@@ -24,12 +24,12 @@ use Rattle.paging.specs.Theorems.{rowsIn}
 use Rattle.paging.proofs.Tables.{cells-long, table-long}
 use Rattle.paging.proofs.Runs.{run-holds}
 use Rattle.reporting.specs.Lines.{rowLines, totalLine, refusedLine}
-use Rattle.reporting.specs.Report.{lent, planRun, tableLines, longest}
+use Rattle.reporting.specs.Report.{runTableCells, planRun, tableReport, roomForAny}
 use Rattle.reporting.specs.Parts.{AllRows, planReport}
 use Rattle.reporting.proofs.Printing.{rows-few, total-few, refused-few}
 
-lent-long : length lent ≡ 12288
-unfolding lent
+lent-long : length runTableCells ≡ 12288
+unfolding runTableCells
 lent-long = length-replicate {A = ℕ} 12288 0
 
 -- the order maker makes the sweep order of a sound plan
@@ -55,16 +55,16 @@ module _ (rows probes area : ℕ) {A : Type 0} (printed : A) (line : ℕ → A) 
 
 module _ (s : Shape) (cells : List ℤ) (sound : Sound s cells) (order table : List ℕ) (o : order ≡ sweepOrder cells) (long : length table ≡ 12288) where
   -- the cause goes by the table's length alone
-  same-cause : runCause s cells order table ≡ runCause s cells (sweepOrder cells) lent
+  same-cause : runCause s cells order table ≡ runCause s cells (sweepOrder cells) runTableCells
   unfolding runCause
   same-cause = rw (o, long, lent-long)
 
   pub refused-report : (c : ℕ) → Refused c ≡ runAnswer (runCall s cells order table) → planReport s cells ≡ refusedLine c
   unfolding runCall planReport
-  refused-report c e = refusal _ _ _ (tableLines s cells) refusedLine (runCause s cells (sweepOrder cells) lent) c (rw same-cause at e)
+  refused-report c e = refusal _ _ _ (tableReport s cells) refusedLine (runCause s cells (sweepOrder cells) runTableCells) c (rw same-cause at e)
 
   -- rows that 12,288 cells take leave room for the total
-  room : (rows probes area : ℕ) → length (tableOf s cells) ≤ capacity s table → length (rowLines (layers s cells) (tableOf s cells) ++ totalLine rows probes area) ≤ longest
+  room : (rows probes area : ℕ) → length (tableOf s cells) ≤ capacity s table → length (rowLines (layers s cells) (tableOf s cells) ++ totalLine rows probes area) ≤ roomForAny
   room rows probes area h =
       let n = length (tableOf s cells) in
       let f = framed s cells sound .1 .some in
@@ -88,13 +88,13 @@ module _ (s : Shape) (cells : List ℤ) (sound : Sound s cells) (order table : L
     pub is : planReport s cells ≡ rowLines (layers s cells) (tableOf s cells) ++ totalLine rows probes area
     pub read : rowsIn (s .k) rows (runTable s cells order table) ≡ tableOf s cells
     pub all : AllRows (layers s cells) (tableOf s cells)
-    pub fits : length (rowLines (layers s cells) (tableOf s cells) ++ totalLine rows probes area) ≤ longest
+    pub fits : length (rowLines (layers s cells) (tableOf s cells) ++ totalLine rows probes area) ≤ roomForAny
 
   pub printed : (rows probes area : ℕ) → Done rows probes area ≡ runAnswer (runCall s cells order table) → Printed rows probes area
   unfolding runCall planReport
   printed rows probes area e =
-      let d = success _ _ _ (tableLines s cells) refusedLine (runCause s cells order table) rows probes area e in
-      let z : runCause s cells (sweepOrder cells) lent ≡ 0 = sym same-cause ∙ d .0 in
+      let d = success _ _ _ (tableReport s cells) refusedLine (runCause s cells order table) rows probes area e in
+      let z : runCause s cells (sweepOrder cells) runTableCells ≡ 0 = sym same-cause ∙ d .0 in
       let h = run-holds s cells order table sound o in
       record {
         is = rw (z, d .1, d .2, d .3);
@@ -104,13 +104,13 @@ module _ (s : Shape) (cells : List ℤ) (sound : Sound s cells) (order table : L
       }
 
 -- no report on a plan is longer
-pub plan-longest : (s : Shape) (cells : List ℤ) → Sound s cells → length (planReport s cells) ≤ longest
+pub plan-longest : (s : Shape) (cells : List ℤ) → Sound s cells → length (planReport s cells) ≤ roomForAny
 unfolding planReport
-plan-longest s cells sound = go (runCause s cells (sweepOrder cells) lent) refl
+plan-longest s cells sound = go (runCause s cells (sweepOrder cells) runTableCells) refl
   where
     v : RunValues
     v = planRun s cells
 
-    go : (cause : ℕ) → runCause s cells (sweepOrder cells) lent ≡ cause → length (onCause cause (tableLines s cells) refusedLine) ≤ longest
-    go zero e = room s cells sound (sweepOrder cells) lent refl lent-long (v .rows) (v .probes) (v .area) (run-holds s cells (sweepOrder cells) lent sound refl .succeeds .0 e)
+    go : (cause : ℕ) → runCause s cells (sweepOrder cells) runTableCells ≡ cause → length (onCause cause (tableReport s cells) refusedLine) ≤ roomForAny
+    go zero e = room s cells sound (sweepOrder cells) runTableCells refl lent-long (v .rows) (v .probes) (v .area) (run-holds s cells (sweepOrder cells) runTableCells sound refl .succeeds .0 e)
     go (suc cause) e = omega (arith, refused-few (suc cause))

@@ -19,7 +19,7 @@ use Rattle.text.proofs.Theorems.{round-trip}
 use Rattle.decimal.specs.Stores.{Put}
 use Rattle.decimal.proofs.Stores.{put-start, put-length}
 use Rattle.reporting.specs.Lines.{refusedLine}
-use Rattle.reporting.specs.Report.{reportOf, reportCause, tableLines, longest, printed, outAfter}
+use Rattle.reporting.specs.Report.{reportOf, reportCause, tableReport, roomForAny, put, outAfter}
 use Rattle.reporting.specs.Parts.{planReport}
 use Rattle.reporting.proofs.Printing.{refused-few}
 use Rattle.reporting.proofs.Reports.{plan-longest}
@@ -42,14 +42,14 @@ pub shape-given : (t : List ℕ) (r : Reading) → r ≡ readAnswer 12288 t → 
 shape-given t r e z = ap (λ (x : Reading). x .shape) e ∙ rw z
 
 -- no report is longer
-pub never-longer : (t : List ℕ) → length (reportOf t) ≤ longest
+pub never-longer : (t : List ℕ) → length (reportOf t) ≤ roomForAny
 never-longer t = go (total (length t) 65536)
   where
-    read : length t ≤ 65536 → (n : ℕ) → n ≡ readCause 12288 t → length (reportOf t) ≤ longest
+    read : length t ≤ 65536 → (n : ℕ) → n ≡ readCause 12288 t → length (reportOf t) ≤ roomForAny
     read h zero e = rw (plan-text t h (sym e)) (plan-longest (textShape t) (textCells t) (round-trip .only 12288 t (sym e) .sound))
     read h (suc n) e = rw (refused-text t h (suc n) e (λ z. omega (arith, z))) (omega (arith, refused-few (suc n)))
 
-    go : (length t ≤ 65536) ⊎ (65536 < length t) → length (reportOf t) ≤ longest
+    go : (length t ≤ 65536) ⊎ (65536 < length t) → length (reportOf t) ≤ roomForAny
     go (inl h) = read h (readCause 12288 t) refl
     go (inr h) = rw (long-text t h) (omega (arith, refused-few 13))
 
@@ -80,14 +80,14 @@ Inside r out = (r ≤ length out) × (r ≡ length (take r out))
 inside : (r : ℕ) (out : List ℕ) → r ≤ length out → Inside r out
 inside r out h = (h, omega (arith, length-take r out))
 
-pub printed-none : (t out : List ℕ) → length out < longest → (0 ≡ length (printed (length out) t)) × ((out ≡ outAfter t out) × Inside 0 out)
-unfolding printed
-printed-none t out h = rw (lt-leb longest (length out) h) (refl, (refl, inside 0 out (omega arith)))
+pub printed-none : (t out : List ℕ) → length out < roomForAny → (0 ≡ length (put (length out) t)) × ((out ≡ outAfter t out) × Inside 0 out)
+unfolding put
+printed-none t out h = rw (lt-leb roomForAny (length out) h) (refl, (refl, inside 0 out (omega arith)))
 
-pub printed-all : (t out last : List ℕ) (r : ℕ) → longest ≤ length out → Put out 0 (reportOf t) last r
-    → (r ≡ length (printed (length out) t)) × ((last ≡ outAfter t out) × Inside r last)
-unfolding printed
+pub printed-all : (t out last : List ℕ) (r : ℕ) → roomForAny ≤ length out → Put out 0 (reportOf t) last r
+    → (r ≡ length (put (length out) t)) × ((last ≡ outAfter t out) × Inside r last)
+unfolding put
 printed-all t out last r h p =
     let e = put-start out last (reportOf t) r (omega (arith, never-longer t)) p in
     let l = put-length out last (reportOf t) 0 r p in
-    rw (le-leb longest (length out) h) (omega (arith, p .place), (e, inside r last (omega (arith, p .place, l, never-longer t))))
+    rw (le-leb roomForAny (length out) h) (omega (arith, p .place), (e, inside r last (omega (arith, p .place, l, never-longer t))))

@@ -7,14 +7,15 @@ use Rattle.join.specs.Join.{rects, areaIn, guardLayer}
 
 -- ---- lines
 -- the fields behind a line's word, each behind its tab, and the byte that ends the line
-abbrev pub fields : List (List ℕ) → List ℕ
-fields [] = 10 ∷ []
-fields (f ∷ fs) = 9 ∷ f ++ fields fs
+abbrev pub fieldsEnd : List (List ℕ) → List ℕ
+fieldsEnd [] = 10 ∷ []
+fieldsEnd (f ∷ fs) = 9 ∷ f ++ fieldsEnd fs
 
 -- a line of a word and fields
 unfoldable pub line : List ℕ → List (List ℕ) → List ℕ
-line word fs = word ++ fields fs
+line word fs = word ++ fieldsEnd fs
 
+-- the words
 abbrev pub ROW : List ℕ
 ROW = 82 ∷ 79 ∷ 87 ∷ []
 
@@ -25,9 +26,10 @@ abbrev pub REFUSED : List ℕ
 REFUSED = 82 ∷ 69 ∷ 70 ∷ 85 ∷ 83 ∷ 69 ∷ 68 ∷ []
 
 -- ---- 01: "For each row it prints ROW, the guard's layer, the k places, the area in square millimetres."
-unfoldable pub rowFields : ℕ → List ℕ → ℕ → List (List ℕ)
-rowFields layer row area = decimal layer ∷ (map decimal row ++ decimal area ∷ [])
+unfoldable pub rowFields : (layer : ℕ) (places : List ℕ) (area : ℕ) → List (List ℕ)
+rowFields layer places area = decimal layer ∷ (map decimal places ++ decimal area ∷ [])
 
+-- layers are numbered from 1
 abbrev pub rowLine : List Layer → List ℕ → List ℕ
 rowLine ls row = line ROW (rowFields (suc (guardLayer (rects ls row))) row (areaIn ls row))
 
@@ -36,17 +38,18 @@ rowLines ls [] = []
 rowLines ls (row ∷ rows) = rowLine ls row ++ rowLines ls rows
 
 -- ---- 01: "Last comes TOTAL, rows, trials, square metres."
--- "Square metres are the area sum plus 5,000, divided by 10,000 and rounded down, a count of hundredths"
-abbrev pub hundredths : ℕ → ℕ
-hundredths area = (area + 5000) / 10000
+-- "Square metres are the area sum plus 5,000, divided by 10,000 and rounded down, a count of hundredths": of the sum, never of one row
+abbrev pub hundredths : (areaSum : ℕ) → ℕ
+hundredths areaSum = (areaSum + 5000) / 10000
 
 -- "printed with two decimals"
-unfoldable pub metres : ℕ → List ℕ
-metres h = decimal (h / 100) ++ 46 ∷ digits 2 h
+unfoldable pub squareMetres : (hundredths : ℕ) → List ℕ
+squareMetres h = decimal (h / 100) ++ 46 ∷ digits 2 h
 
-abbrev pub totalLine : (rows probes area : ℕ) → List ℕ
-totalLine rows probes area = line TOTAL (decimal rows ∷ decimal probes ∷ metres (hundredths area) ∷ [])
+-- probes are 01's trials
+abbrev pub totalLine : (rows probes areaSum : ℕ) → List ℕ
+totalLine rows probes areaSum = line TOTAL (decimal rows ∷ decimal probes ∷ squareMetres (hundredths areaSum) ∷ [])
 
 -- ---- 01: "A refusal prints REFUSED and its number alone."
-abbrev pub refusedLine : ℕ → List ℕ
+abbrev pub refusedLine : (cause : ℕ) → List ℕ
 refusedLine cause = line REFUSED (decimal cause ∷ [])

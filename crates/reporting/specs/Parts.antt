@@ -13,7 +13,7 @@ use Rattle.plan.specs.Sweep.{sweepOrder}
 use Rattle.join.specs.RowCall.{isRow}
 use Rattle.paging.specs.Calls.{runCause}
 use Rattle.reporting.specs.Lines.{refusedLine}
-use Rattle.reporting.specs.Report.{lent, tableLines}
+use Rattle.reporting.specs.Report.{runTableCells, tableReport}
 
 -- numbers, each behind its tab
 abbrev pub tabbed : List ℕ → List ℕ
@@ -26,4 +26,4 @@ AllRows ls rows = All (λ row. isRow ls row ≡ true) rows
 
 -- what is printed for a plan
 unfoldable pub planReport : Shape → List ℤ → List ℕ
-planReport s cells = onCause (runCause s cells (sweepOrder cells) lent) (tableLines s cells) refusedLine
+planReport s cells = onCause (runCause s cells (sweepOrder cells) runTableCells) (tableReport s cells) refusedLine

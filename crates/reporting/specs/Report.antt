@@ -15,34 +15,39 @@ use Rattle.text.specs.Reader.{readCause, textShape, textCells}
 use Rattle.reporting.specs.Lines.{rowLines, totalLine, refusedLine}
 
 -- 01: "makes a whole run into 12,288 cells"
-unfoldable pub lent : List ℕ
-lent = replicate 12288 0
+unfoldable pub runTableCells : List ℕ
+runTableCells = replicate 12288 0
+
+-- the cells that the reader is lent: four for each of six times 512 rectangles, so that every plan fits
+abbrev pub planRoom : ℕ
+planRoom = 12288
 
 -- the whole run of a plan, in its sweep order
 abbrev pub planRun : Shape → List ℤ → RunValues
-planRun s cells = runCall s cells (sweepOrder cells) lent
+planRun s cells = runCall s cells (sweepOrder cells) runTableCells
 
--- 01: the lines of all rows; "Last comes TOTAL"
-abbrev pub tableLines : Shape → List ℤ → List ℕ
-tableLines s cells = let v = planRun s cells in rowLines (layers s cells) (tableOf s cells) ++ totalLine (v .rows) (v .probes) (v .area)
+-- the lines of all rows, and the total; printed only where the run is not refused, and its counts are those of these rows
+abbrev pub tableReport : Shape → List ℤ → List ℕ
+tableReport s cells = let v = planRun s cells in rowLines (layers s cells) (tableOf s cells) ++ totalLine (v .rows) (v .probes) (v .area)
 
--- 13, "input above 65,536 bytes", comes "before all others"; then the reader's causes, where as many cells are lent as any plan has; then those of the whole run
+-- 13, "input above 65,536 bytes", comes "before all others"; then the reader's causes; then those of the whole run
 unfoldable pub reportCause : List ℕ → ℕ
 reportCause t =
-    unless (leb (length t) 65536) 13 orElse readCause 12288 t orElse runCause (textShape t) (textCells t) (sweepOrder (textCells t)) lent
+    unless (leb (length t) 65536) 13 orElse readCause planRoom t orElse runCause (textShape t) (textCells t) (sweepOrder (textCells t)) runTableCells
 
 -- what is printed for a text
 unfoldable pub reportOf : List ℕ → List ℕ
-reportOf t = onCause (reportCause t) (tableLines (textShape t) (textCells t)) refusedLine
+reportOf t = onCause (reportCause t) (tableReport (textShape t) (textCells t)) refusedLine
 
--- no report is longer
-abbrev pub longest : ℕ
-longest = 655360
+-- ---- the buffer that it is put into before it is printed
+-- room for any report (specs/Theorems.antt, `fits`)
+abbrev pub roomForAny : ℕ
+roomForAny = 655360
 
--- what is put into a buffer of `room` bytes: nothing where there is not room for every report
-unfoldable pub printed : ℕ → List ℕ → List ℕ
-printed room t = cond (leb longest room) (reportOf t) []
+-- what is put into a buffer of `room` bytes: nothing where there is not room for any report
+unfoldable pub put : ℕ → List ℕ → List ℕ
+put room t = cond (leb roomForAny room) (reportOf t) []
 
--- the buffer afterwards: what is printed stands at its start, the rest is kept
+-- the buffer afterwards: that stands at its start, the rest is kept
 abbrev pub outAfter : List ℕ → List ℕ → List ℕ
-outAfter t out = let p = printed (length out) t in p ++ drop (length p) out
+outAfter t out = let p = put (length out) t in p ++ drop (length p) out

@@ -15,30 +15,30 @@ ghost use lib.ListN.{length, take};
 ghost use Rattle.lists.specs.Lists.{sum};
 ghost use Rattle.plan.specs.Plan.{count, Sound};
 ghost use Rattle.decimal.specs.Stores.{Put};
-ghost use Rattle.reporting.specs.Report.{longest, reportOf, printed, outAfter};
+ghost use Rattle.reporting.specs.Report.{roomForAny, reportOf, put, outAfter};
 ghost use Rattle.reporting.specs.Parts.{planReport};
 
 // The longest input.
 const LONGEST_INPUT: usize = 65536;
 
-// Room for every report.
-const LONGEST_REPORT: usize = 655360;
+// Room for any report.
+const ROOM_FOR_ANY: usize = 655360;
 
-// What the report program prints for a text, put into a lent buffer; its length. A buffer that has not room for every report
+// What the report program prints for a text, put into a lent buffer; its length. A buffer that has not room for any report
 // takes nothing.
 pub fn report(text: &[u8], out: &mut [u8]) -> usize
-    ensures length { λ r. ⌜ r ≡ length (printed (length (now (out .entry))) (now (text .entry))) ⌝ }
+    ensures length { λ r. ⌜ r ≡ length (put (length (now (out .entry))) (now (text .entry))) ⌝ }
     ensures buffer { λ _. ⌜ now (out .exit) ≡ outAfter (now (text .entry)) (now (out .entry)) ⌝ }
     ensures inside { λ r. ⌜ (r ≤ length (now (out .exit))) × (r ≡ length (take r (now (out .exit)))) ⌝ }
 {
-    if out.len() < LONGEST_REPORT {
+    if out.len() < ROOM_FOR_ANY {
         return 0;
     }
     report_on(text, out)
 }
 
 fn report_on(text: &[u8], out: &mut [u8]) -> usize
-    requires { ⌜ longest ≤ length (now out) ⌝ }
+    requires { ⌜ roomForAny ≤ length (now out) ⌝ }
     ensures { λ r. ⌜ Put (now (out .entry)) 0 (reportOf (now (text .entry))) (now (out .exit)) r ⌝ }
 {
     if LONGEST_INPUT < text.len() {
@@ -54,7 +54,7 @@ fn report_on(text: &[u8], out: &mut [u8]) -> usize
 
 // The report on a sound plan, whose cells stand first in the lent ones.
 fn report_plan(shape: Shape, lent: &[i32], out: &mut [u8]) -> usize
-    requires { ⌜ (4 * sum (shape .sizes) ≤ length (now lent)) × Sound shape (take (4 * sum (shape .sizes)) (now lent)) × (longest ≤ length (now out)) ⌝ }
+    requires { ⌜ (4 * sum (shape .sizes) ≤ length (now lent)) × Sound shape (take (4 * sum (shape .sizes)) (now lent)) × (roomForAny ≤ length (now out)) ⌝ }
     ensures { λ r. ⌜ Put (now (out .entry)) 0 (planReport shape (take (4 * sum (shape .sizes)) (now (lent .entry)))) (now (out .exit)) r ⌝ }
 {
     let n = 4 * sum_of(&shape.sizes);
@@ -71,7 +71,7 @@ fn report_cells(
     table: &mut [u32],
     out: &mut [u8],
 ) -> usize
-    requires { ⌜ Sound shape (now cells) × (count (now cells) ≤ length (now order)) × (length (now table) ≡ 12288) × (longest ≤ length (now out)) ⌝ }
+    requires { ⌜ Sound shape (now cells) × (count (now cells) ≤ length (now order)) × (length (now table) ≡ 12288) × (roomForAny ≤ length (now out)) ⌝ }
     ensures { λ r. ⌜ Put (now (out .entry)) 0 (planReport shape (now (cells .entry))) (now (out .exit)) r ⌝ }
 {
     let n = cells.len() / 4;
@@ -86,7 +86,7 @@ fn report_run(
     table: &mut [u32],
     out: &mut [u8],
 ) -> usize
-    requires { ⌜ Sound shape (now cells) × (length (now order) ≡ count (now cells)) × (length (now table) ≡ 12288) × (longest ≤ length (now out)) ⌝ }
+    requires { ⌜ Sound shape (now cells) × (length (now order) ≡ count (now cells)) × (length (now table) ≡ 12288) × (roomForAny ≤ length (now out)) ⌝ }
     ensures { λ r. ⌜ Put (now (out .entry)) 0 (planReport shape (now (cells .entry))) (now (out .exit)) r ⌝ }
 {
     make_order(shape, cells, order);

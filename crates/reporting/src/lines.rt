@@ -14,7 +14,7 @@ ghost use Rattle.plan.specs.Plan.{layersOf};
 ghost use Rattle.plan.specs.Frames.{Framed};
 ghost use Rattle.join.specs.RowCall.{isRow};
 ghost use Rattle.paging.specs.Theorems.{rowsIn};
-ghost use Rattle.reporting.specs.Lines.{ROW, line, rowFields, rowLine, rowLines, hundredths, metres, totalLine, refusedLine};
+ghost use Rattle.reporting.specs.Lines.{ROW, line, rowFields, rowLine, rowLines, hundredths, squareMetres, totalLine, refusedLine};
 ghost use Rattle.reporting.specs.Parts.{tabbed, AllRows};
 
 // A tab and a number; the place behind it.
@@ -125,8 +125,8 @@ fn last_digit(n: u64) -> u8
 
 // A tab and hundredths with two decimals; the place behind them.
 fn put_metres(buf: &mut [u8], at: usize, h: u64) -> usize
-    requires { ⌜ at + length (9 ∷ metres h) ≤ length (now buf) ⌝ }
-    ensures { λ r. ⌜ Put (now (buf .entry)) at (9 ∷ metres h) (now (buf .exit)) r ⌝ }
+    requires { ⌜ at + length (9 ∷ squareMetres h) ≤ length (now buf) ⌝ }
+    ensures { λ r. ⌜ Put (now (buf .entry)) at (9 ∷ squareMetres h) (now (buf .exit)) r ⌝ }
 {
     let a = put_field(buf, at, h / 100);
     buf[a] = b'.';

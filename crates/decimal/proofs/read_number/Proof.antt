@@ -1,135 +1,31 @@
--- `read_number` goes by the kind of the first byte.
-use mathlib.Core.Path.{_≡_, sym, ap, _∙_}
-use Prim.Native.Nat.{_+_, _≤_}
+-- `read_number` steps over a minus and reads the digits.
+use mathlib.Core.Path.{_≡_, sym, _∙_}
+use mathlib.Core.Bool.{true, false}
+use mathlib.Core.Logic.{⊎-elim, inl, inr}
+use lib.ListN.{drop}
 use native.Mathlib.Omega.{arith}
-use lib.IntN.{pos}
-use lib.ListN.{length, getD, drop}
-use mir.Syntax.{w32}
-use mir.Val.{SFits}
-use mir.Facts.{toZ-ofZ}
 use denote.Ref.{now}
-use borrow.Author.Needs.{sfits-of}
-use Rattle.decimal.specs.declared.Kind.{Kind}
-use Rattle.decimal.specs.declared.Kind.the-variants.{Minus, Zero, Digit, Tab, End, Other}
-use Rattle.decimal.specs.declared.Number.the-variants.{Value}
-use Rattle.decimal.specs.Reading.{numberAt}
-use Rattle.decimal.specs.Places.{placed, magnitudeFrom, numberFrom}
-use Rattle.decimal.proofs.Places.{nothing-left, number-at, place, above-read, first-digit}
 use borrow.Author.Needs.{needs}
+use Rattle.decimal.specs.Places.{minusNext, numberFrom, digitsFrom}
+use Rattle.decimal.proofs.Places.{minus-inside, begins}
 use Rattle.decimal.proofs.read_number.Statement.{statement}
 use Rattle.decimal.proofs.read_number.Tie as tie
 
--- what the first byte's kind decides
-seen : (c : tie.After-kind-of) (k : Kind) → c .kind-of .result ≡ k
-    → numberFrom (now (c .before .before .before .before .args .s)) (c .before .before .before .before .args .at)
-    ≡ placed (length (now (c .before .before .before .before .args .s))) (numberAt k (getD (now (c .before .before .before .before .args .s)) (c .before .before .before .before .args .at) 0) (drop (c .before .before .before .before .args .at + 1) (now (c .before .before .before .before .args .s))))
-seen c k e =
-    let a = c .before .before .before .before .args in
-    number-at (now (a .s)) (a .at) k (omega arith) (sym (c .kind-of .ensures) ∙ e)
+-- where the digits begin
+begun : (c : tie.Joined1) → (digitsFrom (c .before .minus-next .result) (now (c .before .before .before .args .s)) (c .if1 .i) ≡ numberFrom (now (c .before .before .before .args .s)) (c .before .before .before .args .at)) × (c .before .minus-next .result ≡ false → minusNext (drop (c .if1 .i) (now (c .before .before .before .args .s))) ≡ false)
+begun c = begins (now (c .before .before .before .args .s)) (c .before .before .before .args .at) (c .before .minus-next .result) (c .if1 .i) (c .before .minus-next .ensures) (⊎-elim (λ w. inl (w .0 .taken, w .1)) (λ w. inr (w .0 .left, w .1)) (c .if1 .came))
 
-digit : (c : tie.After-enum-told3) → (49 ≤ getD (now (c .before .before .before .before .before .before .args .s)) (c .before .before .before .before .before .before .args .at) 0) × (getD (now (c .before .before .before .before .before .before .args .s)) (c .before .before .before .before .before .before .args .at) 0 ≤ 57)
-digit c = first-digit _ (sym (c .before .before .kind-of .ensures) ∙ c .enum-told3 .given .1)
+minus-next-requires : tie.Need-minus-next-requires
+minus-next-requires c κs = search needs
+
+add-i : tie.Need-add-i
+add-i c = omega (arith, minus-inside (now (c .before .before .before .args .s)) (c .before .before .before .args .at) (sym (c .before .minus-next .ensures) ∙ c .if1 .taken))
+
+read-digits-requires : tie.Need-read-digits-requires
+read-digits-requires c κs = begun c .1
 
 returns : tie.Need-returns
-returns c = nothing-left (now (c .before .before .args .s)) (c .before .before .args .at) (omega arith) .1
-
-shared-slice-read-b : tie.Need-shared-slice-read-b
-shared-slice-read-b c = search needs
-
-kind-of-requires : tie.Need-kind-of-requires
-kind-of-requires c κs = search needs
-
-enum-told : tie.Need-enum-told
-enum-told c = search needs
-
-add-read-magnitude : tie.Need-add-read-magnitude
-add-read-magnitude c = search needs
-
-read-magnitude-requires : tie.Need-read-magnitude-requires
-read-magnitude-requires c κs = search needs
-
-enum-told-2 : tie.Need-enum-told-2
-enum-told-2 c = search needs
-
-add-t12 : tie.Need-add-t12
-add-t12 c = search needs
-
-enum-told-3 : tie.Need-enum-told-3
-enum-told-3 c = search needs
-
-add-more-digits : tie.Need-add-more-digits
-add-more-digits c = search needs
-
-sub-more-digits : tie.Need-sub-more-digits
-sub-more-digits c = omega (arith, digit c)
-
-cast-more-digits : tie.Need-cast-more-digits
-cast-more-digits c = omega (arith, digit c)
-
-more-digits-requires : tie.Need-more-digits-requires
-more-digits-requires c κs = omega (arith, digit c)
-
-plus-requires : tie.Need-plus-requires
-plus-requires c κs = search needs
-
-enum-told-4 : tie.Need-enum-told-4
-enum-told-4 c = search needs
-
-enum-told-5 : tie.Need-enum-told-5
-enum-told-5 c = search needs
-
-enum-told-6 : tie.Need-enum-told-6
-enum-told-6 c = search needs
-
-returns-2 : tie.Need-returns-2
-returns-2 c = c .read-magnitude .ensures ∙ (unfold magnitudeFrom in sym (seen (c .before .before .before) Minus (c .before .enum-told .given .1)))
-
-returns-3 : tie.Need-returns-3
-returns-3 c =
-    let a = c .before .before .before .before .before .before .args in
-    ap (Value (pos 0)) (sym (place (now (a .s)) (a .at + 1) (omega arith))) ∙ sym (seen (c .before .before) Zero (c .enum-told2 .given .1))
-
-returns-4 : tie.Need-returns-4
-returns-4 c =
-    let a = c .before .before .before .before .before .before .before .before .args in
-    let f : SFits w32 (c .plus .result) = sfits-of (c .plus .ok) in
-    simp toZ-ofZ
-    (above-read (now (a .s)) (a .at + 1) (getD (now (a .s)) (a .at) 0) (c .before .more-digits .result) (c .plus .result) (c .before .more-digits .ensures) (c .plus .ensures)
-    ∙ sym (seen (c .before .before .before .before) Digit (c .before .before .enum-told3 .given .1)))
-
-returns-5 : tie.Need-returns-5
-returns-5 c = sym (seen (c .before .before) Tab (c .enum-told4 .given .1))
-
-returns-6 : tie.Need-returns-6
-returns-6 c = sym (seen (c .before .before) End (c .enum-told5 .given .1))
-
-returns-7 : tie.Need-returns-7
-returns-7 c = sym (seen (c .before .before) Other (c .enum-told6 .given .1))
+returns c = c .read-digits .ensures ∙ begun (c .before) .0
 
 pub read-number-spec : {M : Type 1} → statement M
-read-number-spec =
-    tie.close
-    (tie.spec
-    returns
-    shared-slice-read-b
-    kind-of-requires
-    enum-told
-    add-read-magnitude
-    read-magnitude-requires
-    enum-told-2
-    add-t12
-    enum-told-3
-    add-more-digits
-    sub-more-digits
-    cast-more-digits
-    more-digits-requires
-    plus-requires
-    enum-told-4
-    enum-told-5
-    enum-told-6
-    returns-2
-    returns-3
-    returns-4
-    returns-5
-    returns-6
-    returns-7)
+read-number-spec = tie.close (tie.spec minus-next-requires add-i read-digits-requires returns)

@@ -9,7 +9,7 @@ use borrow.Author.Needs.{needs}
 use Rattle.decimal.specs.Numerals.{decimal}
 use Rattle.decimal.specs.Stores.{Put}
 use Rattle.decimal.proofs.Stores.{Left, left-all, left-byte, left-put, left-none, left-room, left-fits}
-use Rattle.reporting.specs.Lines.{metres}
+use Rattle.reporting.specs.Lines.{squareMetres}
 use Rattle.reporting.proofs.Printing.{metres-parts}
 use Rattle.reporting.proofs.lines.put_metres.Statement.{statement}
 use Rattle.reporting.proofs.lines.put_metres.Tie as tie
@@ -18,11 +18,11 @@ use Rattle.reporting.proofs.lines.put_metres.Tie as tie
 abbrev decimals : ℕ → List ℕ
 decimals h = 46 ∷ (48 + h / 10 % 10) ∷ (48 + h % 10) ∷ []
 
-start : (s : tie.Start) → Left (now (s .args .buf)) (s .args .at) (9 ∷ metres (s .args .h)) (now (s .args .buf)) (s .args .at) ((9 ∷ decimal (s .args .h / 100)) ++ decimals (s .args .h))
+start : (s : tie.Start) → Left (now (s .args .buf)) (s .args .at) (9 ∷ squareMetres (s .args .h)) (now (s .args .buf)) (s .args .at) ((9 ∷ decimal (s .args .h / 100)) ++ decimals (s .args .h))
 start s = rw (metres-parts (s .args .h)) (left-all _ _ _)
 
 after-field : (c : tie.After-put-field)
-    → Left (now (c .before .before .before .args .buf)) (c .before .before .before .args .at) (9 ∷ metres (c .before .before .before .args .h)) (c .put-field .last .0) (c .put-field .result) (decimals (c .before .before .before .args .h))
+    → Left (now (c .before .before .before .args .buf)) (c .before .before .before .args .at) (9 ∷ squareMetres (c .before .before .before .args .h)) (c .put-field .last .0) (c .put-field .result) (decimals (c .before .before .before .args .h))
 after-field c = left-put _ _ _ _ _ (9 ∷ decimal (c .before .before .before .args .h / 100)) _ _ _ (c .put-field .ensures) (start (c .before .before .before))
 
 room : (c : tie.After-put-field) → c .put-field .result + 3 ≤ length (c .put-field .last .0)

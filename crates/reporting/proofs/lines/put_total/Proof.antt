@@ -8,7 +8,7 @@ use denote.Ref.{now}
 use borrow.Author.Needs.{needs}
 use Rattle.decimal.specs.Numerals.{decimal}
 use Rattle.decimal.proofs.Stores.{Left, left-all, left-byte, left-put, left-none, left-room, left-fits}
-use Rattle.reporting.specs.Lines.{TOTAL, line, hundredths, metres, totalLine}
+use Rattle.reporting.specs.Lines.{TOTAL, line, hundredths, squareMetres, totalLine}
 use Rattle.reporting.proofs.lines.put_total.Statement.{statement}
 use Rattle.reporting.proofs.lines.put_total.Tie as tie
 
@@ -18,7 +18,7 @@ Rest s buf at rest = Left (now (s .args .buf)) (s .args .at) (totalLine (s .args
 
 -- the parts from the square metres, from the probes and from the rows on
 abbrev from-metres : tie.Start → List ℕ
-from-metres s = (9 ∷ metres (hundredths (s .args .area))) ++ 10 ∷ []
+from-metres s = (9 ∷ squareMetres (hundredths (s .args .area))) ++ 10 ∷ []
 
 abbrev from-probes : tie.Start → List ℕ
 from-probes s = (9 ∷ decimal (s .args .probes)) ++ from-metres s
@@ -41,7 +41,7 @@ after-probes c = left-put _ _ _ _ _ (9 ∷ decimal (c .before .before .before .b
 
 after-metres : (c : tie.After-put-metres) → Rest (c .before .before .before .before .before .before .before .before .before .before .before .before .before .before .before .before .before) (c .put-metres .last .0) (c .put-metres .result) (10 ∷ [])
 after-metres c =
-    left-put _ _ _ _ _ (9 ∷ metres (hundredths (c .before .before .before .before .before .before .before .before .before .before .before .before .before .before .before .before .before .args .area))) _ _ _ (rw (c .before .hundredths-of .ensures) at (c .put-metres .ensures)) (after-probes (c .before .before .before .before .before))
+    left-put _ _ _ _ _ (9 ∷ squareMetres (hundredths (c .before .before .before .before .before .before .before .before .before .before .before .before .before .before .before .before .before .args .area))) _ _ _ (rw (c .before .hundredths-of .ensures) at (c .put-metres .ensures)) (after-probes (c .before .before .before .before .before))
 
 room : (c : tie.After-put-metres) → c .put-metres .result < length (c .put-metres .last .0)
 room c = omega (arith, left-fits _ _ _ _ _ (10 ∷ []) (c .before .before .before .before .before .before .before .before .before .before .before .before .before .before .before .before .before .pre) (after-metres c))
@@ -63,7 +63,7 @@ hundredths-of-requires c κs = search needs
 
 put-metres-requires : tie.Need-put-metres-requires
 put-metres-requires c κs =
-    rw (c .hundredths-of .ensures) (left-room _ _ _ _ _ (9 ∷ metres (hundredths (c .before .before .before .before .before .before .before .before .before .before .before .before .before .before .before .before .args .area))) _ (c .before .before .before .before .before .before .before .before .before .before .before .before .before .before .before .before .pre) (after-probes (c .before .before .before .before)))
+    rw (c .hundredths-of .ensures) (left-room _ _ _ _ _ (9 ∷ squareMetres (hundredths (c .before .before .before .before .before .before .before .before .before .before .before .before .before .before .before .before .args .area))) _ (c .before .before .before .before .before .before .before .before .before .before .before .before .before .before .before .before .pre) (after-probes (c .before .before .before .before)))
 
 slice-write-buf : tie.Need-slice-write-buf
 slice-write-buf c = room (c .before .before)
