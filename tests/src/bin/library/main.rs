@@ -2,11 +2,13 @@
 
 mod extras;
 mod ffi;
+mod report;
 
 use extras::compare_extras;
 use ffi::Library;
 use overlay_tests::compare::compare;
 use overlay_tests::reference::Reference;
+use report::compare_program;
 use std::process::exit;
 
 /// Shows the first difference and stops with an error.
@@ -15,11 +17,13 @@ fn stop(text: &str, cases: u64) -> ! {
     exit(1);
 }
 
-/// The seven calls first, then what only the C interface has.
+/// The seven calls first, then what only the C interface has, then the report program.
 fn main() {
     let mut tally = compare(&Library, &Reference).unwrap_or_else(|found| stop(&found.text, found.cases));
     let extras = compare_extras().unwrap_or_else(|text| stop(&text, tally.cases()));
     tally.add("C interface alone", extras);
+    let reports = compare_program().unwrap_or_else(|found| stop(&found.text, tally.cases()));
+    tally.add("report program", reports);
     print!("{tally}");
     println!("{} cases, 0 differences", tally.cases());
 }
