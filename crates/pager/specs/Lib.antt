@@ -1,10 +1,1 @@
-pub mod Tables
-pub mod Frames
-pub mod Scans
-pub mod Focuses
-pub mod Moves
-pub mod Rows
-pub mod Turns
-pub mod Pages
-pub mod Replays
 pub mod Answers

@@ -1,30 +1,22 @@
 // The calls on the walk of a plan: the fresh cursor, a page, the whole run. What they answer is defined in the crate `paging`.
 mod answers;
-mod cursors;
-mod layers;
-mod moves;
-mod page;
-mod scan;
-mod table;
-mod turns;
 
 use answers::capacity_of;
 use answers::fresh_cause;
 use answers::page_from;
 use answers::refused_page;
-use cursors::cursor_of;
-use cursors::ended_cursor;
-use cursors::find;
-use geometry::Rect;
-use layers::frame_of;
-use moves::begin;
-use page::go;
-use page::tally;
 use paging::Cursor;
 use paging::Fresh;
 use paging::Page;
 use paging::Run;
 use plan::Shape;
+use walker::begin;
+use walker::cursor_of;
+use walker::ended_cursor;
+use walker::find;
+use walker::frame_of;
+use walker::go;
+use walker::tally;
 ghost use mathlib.Core.Path.{_≡_};
 ghost use Rattle.paging.specs.Calls.{freshCall, pageCause, stopNumber, pageCall, pageTable, runCall, runValues, runAnswer, runTable};
 
@@ -95,52 +87,4 @@ pub fn run_all(shape: Shape, cells: &[i32], order: &[u32], table: &mut [u32]) ->
     }
     go(frame, cells, order, start, ALL, room, table);
     Run::Done(all.rows as u32, all.done as u64, all.area)
-}
-
-// A plan's k and sizes, and how many rectangles lie before each layer.
-pub struct Frame {
-    pub k: usize,
-    pub sizes: [usize; 6],
-    pub starts: [usize; 7],
-}
-
-// What a candidate has to meet: the common rectangle so far, and the bound on left.
-pub struct Gate {
-    pub common: Rect,
-    pub bound: i32,
-}
-
-// The probe due next: its guard, at `at` of the order, the chosen places, and the place to try.
-pub struct Focus {
-    pub at: usize,
-    pub number: usize,
-    pub guard: usize,
-    pub edge: i32,
-    pub filled: usize,
-    pub next: usize,
-    pub chosen: [u32; 5],
-    pub common: Rect,
-}
-
-// Some probes further: where it is now, how many, and whether the last one yields a row, at `place` with `common`.
-pub struct Turn {
-    pub focus: Focus,
-    pub done: usize,
-    pub yields: bool,
-    pub place: usize,
-    pub common: Rect,
-}
-
-// How far a page has come.
-pub struct Progress {
-    pub focus: Focus,
-    pub rows: usize,
-    pub done: usize,
-    pub area: u64,
-}
-
-// The position that a cursor names, if it names one.
-pub struct Found {
-    pub ok: bool,
-    pub focus: Focus,
 }

@@ -3,7 +3,7 @@ use borrow.Author.Needs.{needs}
 use mathlib.Core.Path.{_≡_, sym, _∙_}
 use lib.ListN.{length}
 use native.Mathlib.Omega.{arith}
-use Rattle.pager.proofs.Frames.{more}
+use Rattle.walker.proofs.Frames.{more}
 use Rattle.pager.proofs.Answering.{Opened, opened, room-fits}
 use Rattle.pager.proofs.Running.{run-refused, counted-misfit, counted-made}
 use Rattle.pager.proofs.run_all.Statement.{statement}
