@@ -3,3 +3,4 @@ pub mod Printing
 pub mod Rows
 pub mod Reports
 pub mod Texts
+pub mod Theorems

@@ -10,7 +10,7 @@ use Rattle.decimal.proofs.Numerals.{length-decimal, size-most}
 use Rattle.plan.specs.Plan.{Layer}
 use Rattle.join.specs.Join.{rects, areaIn, guardLayer}
 use Rattle.paging.specs.Calls.{cellsOf}
-use Rattle.reporting.specs.Lines.{fieldsEnd, ROW, TOTAL, REFUSED, rowFields, line, rowLine, rowLines, hundredths, squareMetres, totalLine, refusedLine}
+use Rattle.reporting.specs.Lines.{fieldsEnd, ROW, rowFields, line, rowLine, rowLines, hundredths, squareMetres, totalLine, refusedLine}
 use Rattle.reporting.specs.Parts.{tabbed}
 
 -- ---- parts

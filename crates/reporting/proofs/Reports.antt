@@ -2,7 +2,7 @@
 use mathlib.Core.Path.{_≡_, refl, sym, ap, _∙_}
 use mathlib.Core.Bool.{Bool, true, false}
 use mathlib.Core.List.{List, _++_}
-use Prim.Native.Nat.{ℕ, zero, suc, _+_, _*_, _/_, _≤_}
+use Prim.Native.Nat.{ℕ, zero, suc, _*_, _/_, _≤_}
 use native.Mathlib.Nat.{le-trans, mul-le-mul-left, mul-le-mul-right, mul-div-le}
 use native.Mathlib.Omega.{arith}
 use lib.IntN.{ℤ}
@@ -19,7 +19,7 @@ use Rattle.join.specs.Table.{tableOf}
 use Rattle.join.proofs.Theorems.{tables}
 use Rattle.paging.specs.declared.Run.{Run}
 use Rattle.paging.specs.declared.Run.the-variants.{Refused, Done}
-use Rattle.paging.specs.Calls.{RunValues, capacity, cellsOf, runCause, refusedRun, runCall, runTable, runValues, runAnswer}
+use Rattle.paging.specs.Calls.{RunValues, capacity, runCause, refusedRun, runCall, runTable, runValues, runAnswer}
 use Rattle.paging.specs.Theorems.{rowsIn}
 use Rattle.paging.proofs.Tables.{cells-long, table-long}
 use Rattle.paging.proofs.Runs.{run-holds}
@@ -28,7 +28,7 @@ use Rattle.reporting.specs.Report.{runTableCells, planRun, tableReport, 
 use Rattle.reporting.specs.Parts.{AllRows, planReport}
 use Rattle.reporting.proofs.Printing.{rows-few, total-few, refused-few}
 
-lent-long : length runTableCells ≡ 12288
+pub lent-long : length runTableCells ≡ 12288
 unfolding runTableCells
 lent-long = length-replicate {A = ℕ} 12288 0
 

@@ -1,13 +1,13 @@
 -- Laws of a table's rows on their way to lines.
 use mathlib.Core.Path.{_≡_, sym, ap, _∙_}
 use mathlib.Core.Bool.{true}
-use mathlib.Core.List.{List, [], _∷_, _++_}
+use mathlib.Core.List.{List, _∷_, _++_}
 use Prim.Native.Nat.{ℕ, suc, _+_, _-_, _≤_, _<_}
 use native.Mathlib.Omega.{arith}
 use lib.IntN.{ℤ}
 use lib.ListN.{length, take, drop, length-take, length-drop}
 use lib.Seq.{drop-drop}
-use Rattle.lists.specs.Lists.{All, _and_}
+use Rattle.lists.specs.Lists.{_and_}
 use Rattle.lists.proofs.Tests.{both}
 use Rattle.geometry.specs.Rectangles.{nonempty}
 use Rattle.plan.specs.Plan.{Layer, layersOf}

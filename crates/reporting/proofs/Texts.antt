@@ -11,7 +11,6 @@ use borrow.Author.Tests.{le-leb, lt-leb}
 use Rattle.lists.specs.Lists.{sum}
 use Rattle.lists.proofs.Tests.{total}
 use Rattle.plan.specs.declared.Shape.{Shape}
-use Rattle.plan.specs.Causes.{onCause, _orElse_}
 use Rattle.plan.specs.Plan.{Sound}
 use Rattle.text.specs.declared.Reading.{Reading}
 use Rattle.text.specs.Reader.{readCause, textShape, textCells, readAnswer, cellsAfter}
@@ -19,7 +18,7 @@ use Rattle.text.proofs.Theorems.{round-trip}
 use Rattle.decimal.specs.Stores.{Put}
 use Rattle.decimal.proofs.Stores.{put-start, put-length}
 use Rattle.reporting.specs.Lines.{refusedLine}
-use Rattle.reporting.specs.Report.{reportOf, reportCause, tableReport, roomForAny, put, outAfter}
+use Rattle.reporting.specs.Report.{reportOf, reportCause, roomForAny, put, outAfter}
 use Rattle.reporting.specs.Parts.{planReport}
 use Rattle.reporting.proofs.Printing.{refused-few}
 use Rattle.reporting.proofs.Reports.{plan-longest}

@@ -41,13 +41,19 @@ module _ (s : Shape) (plan : List ℤ) (sound : Sound s plan) where
   unfolding readCause
   text-cause room = rw (lines-back, plan-agrees s plan sound, plan-cells s plan sound)
 
+  -- its shape and cells are the plan's
+  pub shape-back : textShape (textOf s plan) ≡ s
+  unfolding textShape
+  shape-back = rw lines-back (plan-shape s plan sound)
+
+  pub cells-back : textCells (textOf s plan) ≡ plan
+  unfolding textCells
+  cells-back = rw lines-back (plan-cells s plan sound)
+
   pub back : (cells : List ℤ) → length plan ≤ length cells → GivesBack s plan (textOf s plan) cells
-  unfolding textShape textCells
   back cells h =
       let e : readCause (length cells) (textOf s plan) ≡ 0 = rw (text-cause (length cells), le-leb (length plan) (length cells) h) in
-      let x : textShape (textOf s plan) ≡ s = rw lines-back (plan-shape s plan sound) in
-      let y : textCells (textOf s plan) ≡ plan = rw lines-back (plan-cells s plan sound) in
-      record { answer = rw (e, x); filled = rw (e, y) }
+      record { answer = rw (e, shape-back); filled = rw (e, cells-back) }
 
 -- ---- an accepted text
 headed-lines : (ls : List Line) → agrees ls ≡ true → ls ≡ planLines (shapeIn ls) (cellsIn ls)
@@ -128,7 +134,7 @@ pub data Verdict (room : ℕ) (t : List ℕ) : Type 0 where
   no-plan : readCause room t ≡ 10 → wellFormed t ≡ true → (PlanText t → ⊥) → Verdict room t
   of : (p : PlanText t) → Verdict room t
 
-verdict : (room : ℕ) (t : List ℕ) → Verdict room t
+pub verdict : (room : ℕ) (t : List ℕ) → Verdict room t
 unfolding readCause wellFormed textOf
 verdict room t = go (linesOf t) refl
   where

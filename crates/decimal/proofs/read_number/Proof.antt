@@ -1,6 +1,6 @@
 -- `read_number` steps over a minus and reads the digits.
 use mathlib.Core.Path.{_≡_, sym, _∙_}
-use mathlib.Core.Bool.{true, false}
+use mathlib.Core.Bool.{false}
 use mathlib.Core.Logic.{⊎-elim, inl, inr}
 use lib.ListN.{drop}
 use native.Mathlib.Omega.{arith}

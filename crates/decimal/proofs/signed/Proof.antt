@@ -1,5 +1,4 @@
 -- `signed` gives a magnitude its sign.
-use mathlib.Core.Path.{_≡_}
 use native.Mathlib.Omega.{arith}
 use lib.IntN.{pos, _-ℤ_}
 use mir.Syntax.{w32}

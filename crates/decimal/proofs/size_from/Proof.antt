@@ -1,6 +1,6 @@
 -- `size_from` counts the digits from `least` on. The loop's invariant: n reaches 10^c. The measure is what is left of the eighteen places that the table tells.
 use mathlib.Core.Path.{_≡_}
-use Prim.Native.Nat.{ℕ, _+_, _-_, _/_, _^_, _≤_, _<_}
+use Prim.Native.Nat.{ℕ, _-_, _^_, _≤_}
 use native.Mathlib.Omega.{arith}
 use borrow.Author.Needs.{needs}
 use Rattle.decimal.proofs.Powers.{below-next, reaches-next}

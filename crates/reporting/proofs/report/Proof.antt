@@ -1,6 +1,5 @@
 -- `report` puts the report into a buffer that has room for every report, and nothing into any other.
 use native.Mathlib.Omega.{arith}
-use lib.ListN.{length}
 use denote.Ref.{now}
 use borrow.Author.Needs.{needs}
 use Rattle.reporting.proofs.Texts.{printed-none, printed-all}

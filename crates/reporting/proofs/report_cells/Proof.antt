@@ -1,6 +1,5 @@
 -- `report_cells` takes as much of the order's buffer as the plan has rectangles.
 use mathlib.Core.Path.{_≡_, sym}
-use Prim.Native.Nat.{_/_}
 use native.Mathlib.Omega.{arith}
 use lib.ListN.{length, take, length-take}
 use denote.Ref.{now}

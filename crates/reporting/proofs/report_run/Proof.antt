@@ -8,6 +8,8 @@ use borrow.Author.Needs.{needs}
 use Rattle.plan.specs.Sweep.{sweepOrder}
 use Rattle.plan.proofs.Plan.{framed}
 use Rattle.join.specs.Table.{tableOf}
+use Rattle.paging.specs.declared.Run.the-variants.{Refused}
+use Rattle.paging.specs.Calls.{runCall, runAnswer}
 use Rattle.paging.specs.Theorems.{rowsIn}
 use Rattle.reporting.proofs.Printing.{refused-few}
 use Rattle.reporting.proofs.Reports.{swept, refused-report, Printed, printed}
@@ -22,6 +24,10 @@ ordered : (c : tie.After-run-all) → made c ≡ sweepOrder (now (c .before .bef
 ordered c =
     let s = c .before .before .before .before .before .before .before .before .before .before in
     swept (s .args .t1) (now (s .args .cells)) (now (s .args .order)) (made c) (s .pre .0) (s .pre .1) (c .before .before .before .before .before .make-order .ensures .1 .1)
+
+-- the run's refusal
+refused : (c : tie.After-cause) → Refused (c .cause .given .0 .0) ≡ runAnswer (runCall (c .before .before .before .before .before .before .before .before .before .before .before .before .before .before .args .t1) (now (c .before .before .before .before .before .before .before .before .before .before .before .before .before .before .args .cells)) (made (c .before .before .before .before)) (now (c .before .before .before .before .before .before .before .before .before .before .before .before .before .before .args .table)))
+refused c = sym (c .cause .given .1) ∙ c .before .before .before .before .run-all .ensures .0
 
 -- what is printed where it succeeds
 success : (c : tie.After-rows) → Printed (c .before .before .before .before .before .before .before .before .before .before .before .before .before .before .args .t1) (now (c .before .before .before .before .before .before .before .before .before .before .before .before .before .before .args .cells)) (c .before .before .before .before .before .before .before .before .before .before .before .before .before .before .pre .0) (made (c .before .before .before .before)) (now (c .before .before .before .before .before .before .before .before .before .before .before .before .before .before .args .table)) (ordered (c .before .before .before .before)) (c .before .before .before .before .before .before .before .before .before .before .before .before .before .before .pre .2) (c .rows .given .0 .0) (c .rows .given .0 .1 .0) (c .rows .given .0 .1 .1 .0)
@@ -67,7 +73,7 @@ same-length-3 c = search needs
 returns : tie.Need-returns
 returns c =
     let s = c .before .before .before .before .before .before .before .before .before .before .before .before .before .before .before .before .before .before .before in
-    rw (refused-report (s .args .t1) (now (s .args .cells)) (s .pre .0) (made (c .before .before .before .before .before .before .before .before .before)) (now (s .args .table)) (ordered (c .before .before .before .before .before .before .before .before .before)) (s .pre .2) _ (sym (c .before .before .before .before .before .cause .given .1) ∙ c .before .before .before .before .before .before .before .before .before .run-all .ensures .0))
+    rw (refused-report (s .args .t1) (now (s .args .cells)) (s .pre .0) (made (c .before .before .before .before .before .before .before .before .before)) (now (s .args .table)) (ordered (c .before .before .before .before .before .before .before .before .before)) (s .pre .2) _ (refused (c .before .before .before .before .before)))
     (c .before .before .put-refused .ensures)
 
 same-length-4 : tie.Need-same-length-4

@@ -1,5 +1,4 @@
 -- `put_fields` puts number after number. The loop's invariant: those from i on are left to be put. The measure is how many they are.
-use mathlib.Core.Path.{_≡_}
 use mathlib.Core.List.{List, _∷_}
 use Prim.Native.Nat.{ℕ, _+_, _-_, _≤_, _<_}
 use native.Mathlib.Omega.{arith}

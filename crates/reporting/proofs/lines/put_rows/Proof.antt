@@ -4,9 +4,8 @@ use mathlib.Core.List.{List}
 use Prim.Native.Nat.{ℕ, _+_, _-_, _≤_}
 use native.Mathlib.Omega.{arith}
 use lib.IntN.{ℤ}
-use lib.ListN.{length, take, drop, length-take}
+use lib.ListN.{length, take, length-take}
 use denote.Ref.{now}
-use borrow.Author.Needs.{needs}
 use Rattle.plan.specs.Plan.{Layer, layersOf}
 use Rattle.decimal.proofs.Stores.{left-room}
 use Rattle.reporting.specs.Lines.{rowLine}

@@ -1,5 +1,4 @@
 -- `put_total` puts the word, the fields one behind the other, and the byte that ends the line.
-use mathlib.Core.Path.{_≡_}
 use mathlib.Core.List.{List, [], _∷_, _++_}
 use Prim.Native.Nat.{ℕ, _<_}
 use native.Mathlib.Omega.{arith}
