@@ -16,9 +16,9 @@ use Rattle.geometry.proofs.Rectangles.{ranged, in-range}
 use Rattle.plan.specs.declared.Shape.{Shape}
 use Rattle.plan.specs.Causes.{unless, _orElse_}
 use Rattle.plan.specs.Plan.{count, sizesOf, sizeFits, sizesFit, allRanged, planCause, Sound}
-use Rattle.plan.specs.Sweep.{sweepOrder}
-use Rattle.plan.specs.Theorems.{Layered, Sized, Filled, AllIn, CausesHold, AllBelow, Swept, SweepHolds, Plans}
-use Rattle.plan.proofs.Plan.{Checked, checked, count-is, front-sum, ranged-at, ranged-all}
+use Rattle.plan.specs.Sweep.{sweepOrder, orderCause}
+use Rattle.plan.specs.Theorems.{Layered, Sized, Filled, AllIn, CausesHold, AllBelow, Swept, SweepHolds, OrderCauses, Plans}
+use Rattle.plan.proofs.Plan.{check-passed, check-failed, check-others, plan-most, Checked, checked, count-is, front-sum, ranged-at, ranged-all}
 use Rattle.plan.proofs.Sweep.{sweep-is, sweep-has, sweep-distinct}
 use Rattle.plan.proofs.Spots.{spot-number, rect-number, earlier, earlier-asym}
 
@@ -138,5 +138,17 @@ sweep-holds s cells h = record {
     ascending : Swept s cells (sweepOrder cells)
     ascending = pairwise-with (earlier (sizesOf s) cells whole) (sweep-is cells .below) (sweep-is cells .ascending)
 
+-- ---- the order maker's causes
+order-causes : (s : Shape) (cells : List ℤ) (order : List ℕ) → OrderCauses s cells order
+unfolding orderCause
+order-causes s cells order =
+    let n = sum (s .sizes) in
+    let t = tells (eqb (length order) n) (eqb-true (length order) n) (eq-eqb (length order) n) in
+    record {
+      made = check-passed (planCause s cells) 7 (λ z. t);
+      eight = check-failed (planCause s cells) 7 (omega (arith, plan-most s cells)) (λ z. t);
+      earlier = λ m p l. check-others (planCause s cells) (eqb (length order) n) 8 m p (λ e. omega arith);
+    }
+
 pub plans : Plans
-plans = record { causes = causes-hold; sweep = sweep-holds }
+plans = record { causes = causes-hold; order = order-causes; sweep = sweep-holds }

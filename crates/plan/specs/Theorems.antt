@@ -9,7 +9,7 @@ use Rattle.lists.specs.Lists.{Pairwise, Distinct, sum}
 use Rattle.geometry.specs.Theorems.{Ranged}
 use Rattle.plan.specs.declared.Shape.{Shape}
 use Rattle.plan.specs.Plan.{rectAt, count, sizesOf, layers, planCause, Sound}
-use Rattle.plan.specs.Sweep.{spotOf, Has, rectOf, Earlier, sweepOrder}
+use Rattle.plan.specs.Sweep.{spotOf, Has, rectOf, Earlier, sweepOrder, orderCause}
 
 -- ---- 01, "The plan": what each of the causes denies
 -- "k layers, 2 to 6"
@@ -60,6 +60,13 @@ pub record SweepHolds (s : Shape) (cells : List ℤ) : Type 0 where
   -- ... and the only such list
   pub only : (l : List ℕ) → AllBelow (sum (s .sizes)) l → Swept s cells l → l ≡ sweepOrder cells
 
+-- the order maker's causes: those of the plan, and 8, "buffer not n cells", where none of them applies
+pub record OrderCauses (s : Shape) (cells : List ℤ) (order : List ℕ) : Type 0 where
+  pub made : (orderCause s cells order ≡ 0) ↔ ((planCause s cells ≡ 0) × (length order ≡ sum (s .sizes)))
+  pub eight : (orderCause s cells order ≡ 8) ↔ ((planCause s cells ≡ 0) × (length order ≡ sum (s .sizes) → ⊥))
+  pub earlier : (n : ℕ) → 0 < n → n < 8 → (orderCause s cells order ≡ n) ↔ (planCause s cells ≡ n)
+
 pub record Plans : Type 0 where
   pub causes : (s : Shape) (cells : List ℤ) → CausesHold s cells
+  pub order : (s : Shape) (cells : List ℤ) (order : List ℕ) → OrderCauses s cells order
   pub sweep : (s : Shape) (cells : List ℤ) → Sound s cells → SweepHolds s cells
