@@ -18,7 +18,7 @@ use Rattle.text.proofs.Theorems.{round-trip}
 use Rattle.decimal.specs.Stores.{Put}
 use Rattle.decimal.proofs.Stores.{put-start, put-length}
 use Rattle.reporting.specs.Lines.{refusedLine}
-use Rattle.reporting.specs.Report.{reportOf, reportCause, roomForAny, put, outAfter}
+use Rattle.reporting.specs.Report.{reportOf, reportCause, roomForAny, putInto, outAfter}
 use Rattle.reporting.specs.Parts.{planReport}
 use Rattle.reporting.proofs.Printing.{refused-few}
 use Rattle.reporting.proofs.Reports.{plan-longest}
@@ -79,13 +79,13 @@ Inside r out = (r ≤ length out) × (r ≡ length (take r out))
 inside : (r : ℕ) (out : List ℕ) → r ≤ length out → Inside r out
 inside r out h = (h, omega (arith, length-take r out))
 
-pub printed-none : (t out : List ℕ) → length out < roomForAny → (0 ≡ length (put (length out) t)) × ((out ≡ outAfter t out) × Inside 0 out)
-unfolding put
+pub printed-none : (t out : List ℕ) → length out < roomForAny → (0 ≡ length (putInto (length out) t)) × ((out ≡ outAfter t out) × Inside 0 out)
+unfolding putInto
 printed-none t out h = rw (lt-leb roomForAny (length out) h) (refl, (refl, inside 0 out (omega arith)))
 
 pub printed-all : (t out last : List ℕ) (r : ℕ) → roomForAny ≤ length out → Put out 0 (reportOf t) last r
-    → (r ≡ length (put (length out) t)) × ((last ≡ outAfter t out) × Inside r last)
-unfolding put
+    → (r ≡ length (putInto (length out) t)) × ((last ≡ outAfter t out) × Inside r last)
+unfolding putInto
 printed-all t out last r h p =
     let e = put-start out last (reportOf t) r (omega (arith, never-longer t)) p in
     let l = put-length out last (reportOf t) 0 r p in

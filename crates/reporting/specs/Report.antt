@@ -45,9 +45,9 @@ abbrev pub roomForAny : ℕ
 roomForAny = 655360
 
 -- what is put into a buffer of `room` bytes: nothing where there is not room for any report
-unfoldable pub put : ℕ → List ℕ → List ℕ
-put room t = cond (leb roomForAny room) (reportOf t) []
+unfoldable pub putInto : ℕ → List ℕ → List ℕ
+putInto room t = cond (leb roomForAny room) (reportOf t) []
 
 -- the buffer afterwards: that stands at its start, the rest is kept
 abbrev pub outAfter : List ℕ → List ℕ → List ℕ
-outAfter t out = let p = put (length out) t in p ++ drop (length p) out
+outAfter t out = let p = putInto (length out) t in p ++ drop (length p) out

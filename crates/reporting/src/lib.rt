@@ -1,6 +1,8 @@
 // The report on a plan text, as bytes: a line for each row and the total, or a refusal (01, "The report").
 mod lines;
 
+use libc::STDIN_FILENO;
+use libc::STDOUT_FILENO;
 use lines::put_refused;
 use lines::put_table;
 use pager::run_all;
@@ -11,11 +13,11 @@ use plan::sum_of;
 use text::read;
 ghost use mathlib.Core.Path.{_≡_};
 ghost use Prim.Native.Nat.{_*_, _≤_};
-ghost use lib.ListN.{length, take};
+ghost use lib.ListN.{length, take, replicate};
 ghost use Rattle.lists.specs.Lists.{sum};
 ghost use Rattle.plan.specs.Plan.{count, Sound};
 ghost use Rattle.decimal.specs.Stores.{Put};
-ghost use Rattle.reporting.specs.Report.{roomForAny, reportOf, put, outAfter};
+ghost use Rattle.reporting.specs.Report.{roomForAny, reportOf, putInto, outAfter};
 ghost use Rattle.reporting.specs.Parts.{planReport};
 
 // The longest input.
@@ -27,7 +29,7 @@ const ROOM_FOR_ANY: usize = 655360;
 // What the report program prints for a text, put into a lent buffer; its length. A buffer that has not room for any report
 // takes nothing.
 pub fn report(text: &[u8], out: &mut [u8]) -> usize
-    ensures length { λ r. ⌜ r ≡ length (put (length (now (out .entry))) (now (text .entry))) ⌝ }
+    ensures length { λ r. ⌜ r ≡ length (putInto (length (now (out .entry))) (now (text .entry))) ⌝ }
     ensures buffer { λ _. ⌜ now (out .exit) ≡ outAfter (now (text .entry)) (now (out .entry)) ⌝ }
     ensures inside { λ r. ⌜ (r ≤ length (now (out .exit))) × (r ≡ length (take r (now (out .exit)))) ⌝ }
 {
@@ -37,6 +39,34 @@ pub fn report(text: &[u8], out: &mut [u8]) -> usize
     report_on(text, out)
 }
 
+// Zeros for the program's two buffers: one byte more than a text may have, which tells that there are more, and room for any report.
+pub fn input_buffer() -> [u8; 65537]
+    ensures { λ r. ⌜ 65537 ≡ length r ⌝ }
+    ensures { λ r. ⌜ r ≡ replicate 65537 0 ⌝ }
+{
+    [0; 65537]
+}
+
+pub fn report_buffer() -> [u8; 655360]
+    ensures { λ r. ⌜ 655360 ≡ length r ⌝ }
+    ensures { λ r. ⌜ r ≡ replicate 655360 0 ⌝ }
+{
+    [0; 655360]
+}
+
+// Reads a text from standard input into a lent buffer, has the report made in the other, and writes it to standard output; how many
+// bytes it read.
+pub fn answer(text: &mut [u8], out: &mut [u8]) -> usize
+    ensures read { λ n. ⌜ n ≤ length (now (text .exit)) ⌝ }
+    ensures made { λ n. ⌜ now (out .exit) ≡ outAfter (take n (now (text .exit))) (now (out .entry)) ⌝ }
+{
+    let n = io::read_full(STDIN_FILENO, text);
+    let size = report(&text[..n], out);
+    io::write_all(STDOUT_FILENO, &out[..size]);
+    n
+}
+
+// The report on a text, where there is room for any.
 fn report_on(text: &[u8], out: &mut [u8]) -> usize
     requires { ⌜ roomForAny ≤ length (now out) ⌝ }
     ensures { λ r. ⌜ Put (now (out .entry)) 0 (reportOf (now (text .entry))) (now (out .exit)) r ⌝ }
