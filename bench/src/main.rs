@@ -12,20 +12,29 @@ use overlay_tests::seeds::Seeds;
 use std::hint::black_box;
 use std::time::Instant;
 
-/// The shortest of some rounds, in microseconds, each of as many calls as take a few milliseconds.
-fn best(mut call: impl FnMut()) -> f64 {
+/// How many rounds of each are taken.
+const ROUNDS: u32 = 25;
+
+/// How many calls take a few milliseconds.
+fn calls_of(call: &mut impl FnMut()) -> u32 {
     let start = Instant::now();
     call();
-    let once = start.elapsed().as_secs_f64();
-    let calls = (0.005 / once.max(1e-9)).clamp(1.0, 10_000.0) as u32;
-    let rounds = if once > 0.2 { 3 } else { 9 };
-    (0..rounds)
-        .map(|_| {
-            let start = Instant::now();
-            (0..calls).for_each(|_| call());
-            start.elapsed().as_secs_f64() * 1e6 / calls as f64
-        })
-        .fold(f64::MAX, f64::min)
+    (0.005 / start.elapsed().as_secs_f64().max(1e-9)).clamp(1.0, 10_000.0) as u32
+}
+
+/// The time of a call in a round of so many, in microseconds.
+fn round(call: &mut impl FnMut(), calls: u32) -> f64 {
+    let start = Instant::now();
+    (0..calls).for_each(|_| call());
+    start.elapsed().as_secs_f64() * 1e6 / calls as f64
+}
+
+/// The shortest round of each. They are taken in turn, so that what else the machine does meets both alike.
+fn both(mut ours: impl FnMut(), mut rust: impl FnMut()) -> (f64, f64) {
+    let calls = (calls_of(&mut ours), calls_of(&mut rust));
+    (0..ROUNDS).fold((f64::MAX, f64::MAX), |best, _| {
+        (best.0.min(round(&mut ours, calls.0)), best.1.min(round(&mut rust, calls.1)))
+    })
 }
 
 /// A line of the table: what was done, both times, and their ratio.
@@ -58,43 +67,51 @@ fn bench(name: &str, plan: &Plan) {
     assert!(run.number == 0 && table == second);
     let name = format!("{name}, {} rows", run.rows);
 
-    let ours = best(|| { black_box(Library.run(shape, cells, black_box(&order), &mut table)); });
-    let rust = best(|| { black_box(hand::run(shape, cells, black_box(&order), &mut second)); });
+    let (ours, rust) = both(
+        || { black_box(Library.run(shape, cells, black_box(&order), &mut table)); },
+        || { black_box(hand::run(shape, cells, black_box(&order), &mut second)); },
+    );
     tell(&name, "run", ours, rust);
     println!("{:<22} {:<10} {:>12.2} {:>12.2}", "", "ns a trial", ours * 500.0 / run.trials as f64, rust * 500.0 / run.trials as f64);
 
     let budget = 100_000;
     let fresh = Library.fresh(shape, cells, &order).1;
-    let ours = best(|| {
-        pages(|t| { let p = Library.page(shape, cells, &order, t, budget, &mut table); (p.stop, p.ticket) }, fresh)
-    });
-    let rust = best(|| {
-        pages(|t| { let p = hand::page(shape, cells, &order, t, budget, &mut second); (p.stop, p.ticket) }, fresh)
-    });
+    let (ours, rust) = both(
+        || pages(|t| { let p = Library.page(shape, cells, &order, t, budget, &mut table); (p.stop, p.ticket) }, fresh),
+        || pages(|t| { let p = hand::page(shape, cells, &order, t, budget, &mut second); (p.stop, p.ticket) }, fresh),
+    );
     tell(&name, "pages", ours, rust);
 
-    let ours = best(|| { black_box(Library.make_order(shape, black_box(cells), &mut order)); });
-    let rust = best(|| { black_box(hand::make_order(shape, black_box(cells), &mut other)); });
+    let (ours, rust) = both(
+        || { black_box(Library.make_order(shape, black_box(cells), &mut order)); },
+        || { black_box(hand::make_order(shape, black_box(cells), &mut other)); },
+    );
     tell(&name, "order", ours, rust);
 
-    let ours = best(|| { black_box(ffi::is_order(black_box(cells), &order)); });
-    let rust = best(|| { black_box(hand::is_order(black_box(cells), &order)); });
+    let (ours, rust) = both(
+        || { black_box(ffi::is_order(black_box(cells), &order)); },
+        || { black_box(hand::is_order(black_box(cells), &order)); },
+    );
     tell(&name, "is_order", ours, rust);
 
     let (mut text, mut copy) = (vec![0; 200_000], vec![0; 200_000]);
     let size = Library.write(shape, cells, &mut text).length;
     assert_eq!(size, hand::write(shape, cells, &mut copy).length);
     assert!(text == copy);
-    let ours = best(|| { black_box(Library.write(shape, black_box(cells), &mut text)); });
-    let rust = best(|| { black_box(hand::write(shape, black_box(cells), &mut copy)); });
+    let (ours, rust) = both(
+        || { black_box(Library.write(shape, black_box(cells), &mut text)); },
+        || { black_box(hand::write(shape, black_box(cells), &mut copy)); },
+    );
     tell(&name, "write", ours, rust);
 
     let text = &text[..size];
     let (mut into, mut also) = (vec![0; 12_288], vec![0; 12_288]);
     assert_eq!(Library.read(text, &mut into), hand::read(text, &mut also));
     assert!(into == also);
-    let ours = best(|| { black_box(Library.read(black_box(text), &mut into)); });
-    let rust = best(|| { black_box(hand::read(black_box(text), &mut also)); });
+    let (ours, rust) = both(
+        || { black_box(Library.read(black_box(text), &mut into)); },
+        || { black_box(hand::read(black_box(text), &mut also)); },
+    );
     tell(&name, "read", ours, rust);
 }
 
