@@ -16,7 +16,6 @@ use walker::ended_cursor;
 use walker::find;
 use walker::frame_of;
 use walker::go;
-use walker::tally;
 ghost use mathlib.Core.Path.{_≡_};
 ghost use Rattle.paging.specs.Calls.{freshCall, pageCause, stopNumber, pageCall, pageTable, runCall, runValues, runAnswer, runTable};
 
@@ -81,10 +80,10 @@ pub fn run_all(shape: Shape, cells: &[i32], order: &[u32], table: &mut [u32]) ->
     let frame = frame_of(shape);
     let start = begin(frame, cells, order);
     let room = capacity_of(frame, table.len());
-    let all = tally(frame, cells, order, start, ALL, room + 1);
+    let all = go(frame, cells, order, start, ALL, room + 1, table, false);
     if room < all.rows {
         return Run::Refused(7);
     }
-    go(frame, cells, order, start, ALL, room, table);
+    go(frame, cells, order, start, ALL, room, table, true);
     Run::Done(all.rows as u32, all.done as u64, all.area)
 }

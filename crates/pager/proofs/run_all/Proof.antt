@@ -1,8 +1,9 @@
 -- `pager::run_all`: a refusal by the checks 1 to 5, one by 7 after counting, or all rows.
 use borrow.Author.Needs.{needs}
-use mathlib.Core.Path.{_≡_, sym, _∙_}
+use mathlib.Core.Path.{_≡_, refl, sym, _∙_}
 use lib.ListN.{length}
 use native.Mathlib.Omega.{arith}
+use Rattle.lists.proofs.Tests.{clash}
 use Rattle.walker.proofs.Frames.{more}
 use Rattle.pager.proofs.Answering.{Opened, opened, room-fits}
 use Rattle.pager.proofs.Running.{run-refused, counted-misfit, counted-made}
@@ -37,37 +38,43 @@ begin-requires c κs = let o = opening c in (o .framing, o .ordered)
 capacity-of-requires : tie.Need-capacity-of-requires
 capacity-of-requires c κs = omega (arith, more (opening (c .before) .framing))
 
-add-tally : tie.Need-add-tally
-add-tally c = search needs
-
-tally-requires : tie.Need-tally-requires
-tally-requires c κs = let o = opening (c .before .before) in (o .framing, o .ordered, c .before .begin .ensures .ready, omega (arith, c .capacity-of .ensures))
-
-returns-2 : tie.Need-returns-2
-returns-2 c =
-    let k = c .before .before .before .before .before in
-    let a = k .before .before .before .before .before .args in
-    counted-misfit (a .shape) (a .cells .now) (a .order .now) (a .table .now) (k .frame-of .result) (opening k) _ (c .before .before .before .before .begin .ensures .rest) _ (c .before .before .before .capacity-of .ensures) _ (c .before .before .tally .ensures) (c .if2 .taken)
+add-go : tie.Need-add-go
+add-go c = search needs
 
 go-requires : tie.Need-go-requires
 go-requires c κs =
-    let q = c .before .before .before .before in
-    let k = q .before .before in
-    let o = opening k in
-    ((o .framing, o .ordered, q .before .begin .ensures .ready), room-fits (k .frame-of .result) (k .before .before .before .before .before .args .table .now) _ (omega (arith, more (o .framing))) (q .capacity-of .ensures))
-
-cast-t15 : tie.Need-cast-t15
-cast-t15 c = search needs
+    let o = opening (c .before .before .before) in
+    ((o .framing, o .ordered, c .before .before .begin .ensures .ready), (λ t. clash t refl, omega (arith, c .before .capacity-of .ensures)))
 
 same-length : tie.Need-same-length
 same-length c = search needs
 
+returns-2 : tie.Need-returns-2
+returns-2 c =
+    let k = c .before .before .before .before .before .before .before .before in
+    let a = c .before .before .before .before .before .before .before .before .before .before .before .before .before .args in
+    rw (c .before .before .before .before .go .ensures .table)
+    (counted-misfit (a .shape) (a .cells .now) (a .order .now) (a .table .now) (k .frame-of .result) (opening k) _ (c .before .before .before .before .before .before .before .begin .ensures .rest) _ (c .before .before .before .before .before .before .capacity-of .ensures) _ (c .before .before .before .before .go .ensures .gone) (c .if2 .taken))
+
+go-requires-2 : tie.Need-go-requires-2
+go-requires-2 c κs =
+    let k = c .before .before .before .before .before .before .before .before .before in
+    let o = opening k in
+    let r = room-fits (k .frame-of .result) (c .before .before .before .before .before .before .before .before .before .before .before .before .before .before .args .table .now) _ (omega (arith, more (o .framing))) (c .before .before .before .before .before .before .before .capacity-of .ensures) in
+    rw (c .before .before .before .before .before .go .ensures .table) ((o .framing, o .ordered, c .before .before .before .before .before .before .before .before .begin .ensures .ready), (λ t. r .0, r .1))
+
+cast-t17 : tie.Need-cast-t17
+cast-t17 c = search needs
+
+same-length-2 : tie.Need-same-length-2
+same-length-2 c = search needs
+
 returns-3 : tie.Need-returns-3
 returns-3 c =
-    let t = c .before .before .before .before .before .before .before in
-    let k = t .before .before .before in
-    let a = k .before .before .before .before .before .args in
-    counted-made (a .shape) (a .cells .now) (a .order .now) (a .table .now) (k .frame-of .result) (opening k) _ (t .before .before .begin .ensures .rest) _ (t .before .capacity-of .ensures) _ (t .tally .ensures) (c .before .before .before .before .before .if2 .left) _ _ (c .before .before .before .go .ensures)
+    let k = c .before .before .before .before .before .before .before .before .before .before .before .before .before in
+    let a = c .before .before .before .before .before .before .before .before .before .before .before .before .before .before .before .before .before .before .args in
+    let g = c .before .before .before .before .before .before .before .before .before .go .ensures in
+    counted-made (a .shape) (a .cells .now) (a .order .now) (a .table .now) (k .frame-of .result) (opening k) _ (c .before .before .before .before .before .before .before .before .before .before .before .before .begin .ensures .rest) _ (c .before .before .before .before .before .before .before .before .before .before .before .capacity-of .ensures) _ (g .gone) (c .before .before .before .before .before .if2 .left) _ _ (rw (g .table) at (c .before .before .before .go2 .ensures))
 
 pub run-all-spec : {M : Type 1} → statement M
 run-all-spec =
@@ -78,10 +85,11 @@ run-all-spec =
     frame-of-requires
     begin-requires
     capacity-of-requires
-    add-tally
-    tally-requires
-    returns-2
+    add-go
     go-requires
-    cast-t15
     same-length
+    returns-2
+    go-requires-2
+    cast-t17
+    same-length-2
     returns-3)

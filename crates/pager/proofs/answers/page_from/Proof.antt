@@ -13,7 +13,8 @@ go-requires : tie.Need-go-requires
 go-requires c κs =
     let q = c .before in
     let s = q .before .before .before in
-    (s .pre, room-fits (s .args .frame) (s .args .table .now) _ (omega (arith, more (s .pre .0))) (q .capacity-of .ensures))
+    let r = room-fits (s .args .frame) (s .args .table .now) _ (omega (arith, more (s .pre .0))) (q .capacity-of .ensures) in
+    (s .pre, (λ o. r .0, r .1))
 
 stop-at-requires : tie.Need-stop-at-requires
 stop-at-requires c κs = search needs
