@@ -1,6 +1,7 @@
 //! Puts thousands of seeded calls to two overlays and compares answers and all lent buffers.
 
 use crate::call::{ask, bytes, cells_i32, cells_u32, same, show, Answer, Call, Plan};
+use crate::known::known_calls;
 use crate::overlay::{Overlay, Page, Stop, Ticket};
 use crate::reference::{count_rows, join, layers_of};
 use crate::seeds::{
@@ -70,6 +71,7 @@ pub fn compare(left: &dyn Overlay, right: &dyn Overlay) -> Result<Tally, Differe
         bench.fixed(round)?;
     }
     bench.large()?;
+    bench.known()?;
     Ok(bench.tally)
 }
 
@@ -84,9 +86,13 @@ impl Bench<'_> {
         if same((&left, &ours), (&right, &theirs)) {
             return Ok(right);
         }
+        Err(self.difference(kind, show(&call, (&left, &ours), (&right, &theirs))))
+    }
+
+    /// A difference in the last case counted.
+    fn difference(&self, kind: &'static str, shown: String) -> Difference {
         let cases = self.tally.cases();
-        let head = format!("DIFFERENCE in {kind}, case {cases}\n");
-        Err(Difference { cases, kind, text: head + &show(&call, (&left, &ours), (&right, &theirs)) })
+        Difference { cases, kind, text: format!("DIFFERENCE in {kind}, case {cases}\n{shown}") }
     }
 
     /// One order maker call.
@@ -643,6 +649,24 @@ impl Bench<'_> {
             }
             self.ask_write(kind, plan, 200)?;
             self.ask_read(kind, &text(plan), 20)?;
+        }
+        Ok(())
+    }
+
+    /// The calls whose answers the paper gives, put to both; a difference shows what is due as the right one.
+    fn known(&mut self) -> Outcome {
+        let kind = "known answers";
+        for known in known_calls() {
+            for overlay in [self.left, self.right] {
+                let mut lent = known.call.clone();
+                let told = ask(&mut lent, overlay);
+                self.tally.add(kind, 1);
+                let (ours, due) = ((&told, &lent), (&known.answer, &known.after));
+                if !same(ours, due) {
+                    let shown = show(&known.call, ours, due);
+                    return Err(self.difference(kind, format!("{}: {shown}", known.name)));
+                }
+            }
         }
         Ok(())
     }

@@ -6,6 +6,7 @@
 
 pub mod call;
 pub mod compare;
+pub mod known;
 pub mod overlay;
 pub mod reference;
 pub mod reports;

@@ -2,12 +2,14 @@
 
 use crate::call::Plan;
 use crate::compare::Difference;
+use crate::known::known_reports;
 use crate::seeds::{equal_plan, plan_d, plan_from, shape_of, spell, text, Seeds, STYLES};
 
 /// How many drawn texts are reported.
 const DRAWN: u64 = 300;
 
-/// Reports as functions from input to printed bytes; returns how many inputs were compared.
+/// Reports as functions from input to printed bytes, beside each other and beside what the paper gives; returns how
+/// many cases were compared.
 pub fn compare_reports(
     left: &dyn Fn(&[u8]) -> Vec<u8>,
     right: &dyn Fn(&[u8]) -> Vec<u8>,
@@ -18,6 +20,17 @@ pub fn compare_reports(
         let (ours, theirs) = (left(&input), right(&input));
         if ours != theirs {
             return Err(Difference { cases, kind: "reports", text: show(&input, &ours, &theirs) });
+        }
+    }
+    for known in known_reports() {
+        for report in [left, right] {
+            cases += 1;
+            let printed = report(&known.input);
+            if printed != known.printed {
+                let shown = show(&known.input, &printed, &known.printed);
+                let text = format!("{}: {shown}", known.name);
+                return Err(Difference { cases, kind: "known reports", text });
+            }
         }
     }
     Ok(cases)

@@ -1,32 +1,37 @@
 // The calls of the plan overlay for other languages. A slice is a pointer and a length, fixed cells are a pointer, and each call returns the number of
-// a cause, 0 for none. The cells of cursors and answers are laid out in specs/Cells.antt; include/overlay.h declares the calls for C.
-use join::RowAnswer;
-use join::row;
+// a cause, 0 for none. The cells of cursors and answers are laid out by crate `cells` (specs/Cells.antt); include/overlay.h declares the calls for C.
+use cells::cursor_after;
+use cells::cursor_cells;
+use cells::cursor_in;
+use cells::order_number;
+use cells::page_cells;
+use cells::row_cells;
+use cells::row_number;
+use cells::run_cells;
+use cells::run_number;
+use cells::stop_number;
+use cells::written_length;
+use cells::written_number;
 use pager::fetch_page;
 use pager::fresh_cursor;
 use pager::run_all;
-use paging::Cursor;
-use paging::Page;
-use paging::Run;
-use paging::Stop;
-use plan::OrderAnswer;
 use plan::Shape;
-use plan::is_order;
-use plan::make_order;
 use plan::plan_cause;
-use text::Writing;
+use rows::row;
+use sweep::is_order;
+use sweep::make_order;
 use text::read;
 use text::write;
 ghost use mathlib.Core.Path.{_≡_};
 ghost use lib.ListN.{length};
 ghost use Rattle.lists.specs.Lists.{same};
 ghost use Rattle.plan.specs.Plan.{planCause};
-ghost use Rattle.plan.specs.Sweep.{sweepOrder, orderCause, orderNumber, orderAfter};
-ghost use Rattle.join.specs.RowCall.{rowCall, rowValues};
-ghost use Rattle.paging.specs.Calls.{freshCall, stopNumber, pageCause, pageCall, pageTable, runCall, runValues, runTable};
+ghost use Rattle.sweep.specs.Sweep.{sweepOrder, orderCause, orderAfter};
+ghost use Rattle.rows.specs.RowCall.{rowCall};
+ghost use Rattle.paging.specs.Calls.{freshCall, pageCause, pageCall, pageTable, runCall, runTable};
 ghost use Rattle.text.specs.Reader.{readCause, readAnswer, cellsAfter};
-ghost use Rattle.text.specs.Writer.{writeCause, writeLength, numberOf, lengthOf, bufferAfter};
-ghost use Rattle.capi.specs.Cells.{shapeOf, cursorCells, cursorIn, stopCode, pageCells, cursorAfter, runCells, rowCells};
+ghost use Rattle.text.specs.Writer.{writeCause, writeLength, bufferAfter};
+ghost use Rattle.cells.specs.Cells.{shapeOf, cursorCells, cursorIn, pageCells, cursorAfter, runCells, rowCells};
 
 // The first of the causes 1 to 4 that applies to a plan.
 #[no_mangle]
@@ -181,168 +186,4 @@ pub extern "C" fn overlay_write_text(
     let writing = write(Shape { k, sizes: six }, cells, text);
     *size = written_length(writing);
     written_number(writing)
-}
-
-// The number of a writer's answer.
-fn written_number(writing: Writing) -> u32
-    ensures { λ r. ⌜ r ≡ numberOf writing ⌝ }
-{
-    match writing {
-        Writing::Written(_) => 0,
-        Writing::Refused(cause) => cause,
-    }
-}
-
-// The length in a writer's answer, 0 for a refusal.
-fn written_length(writing: Writing) -> usize
-    ensures { λ r. ⌜ r ≡ lengthOf writing ⌝ }
-{
-    match writing {
-        Writing::Written(length) => length,
-        Writing::Refused(_) => 0,
-    }
-}
-
-// The number of an order maker's answer.
-fn order_number(answer: OrderAnswer) -> u32
-    ensures { λ r. ⌜ r ≡ orderNumber answer ⌝ }
-{
-    match answer {
-        OrderAnswer::Made => 0,
-        OrderAnswer::Refused(cause) => cause,
-    }
-}
-
-// The number of a row call's answer.
-fn row_number(answer: RowAnswer) -> u32
-    ensures { λ r. ⌜ r ≡ rowValues answer .number ⌝ }
-{
-    match answer {
-        RowAnswer::Refused(cause) => cause,
-        RowAnswer::NoRow => 0,
-        RowAnswer::Row(_, _) => 0,
-    }
-}
-
-// The cells of a row call's answer.
-fn row_cells(answer: RowAnswer) -> [u64; 2]
-    ensures { λ r. ⌜ r ≡ rowCells (rowValues answer) ⌝ }
-{
-    match answer {
-        RowAnswer::Refused(_) => [0, 0],
-        RowAnswer::NoRow => [0, 0],
-        RowAnswer::Row(layer, area) => [layer as u64, area],
-    }
-}
-
-// The cells of a cursor.
-fn cursor_cells(cursor: Cursor) -> [u32; 10]
-    ensures { λ r. ⌜ r ≡ cursorCells cursor ⌝ }
-{
-    let chosen = cursor.chosen;
-    [
-        cursor.ended as u32,
-        cursor.layer,
-        cursor.place,
-        cursor.filled,
-        chosen[0],
-        chosen[1],
-        chosen[2],
-        chosen[3],
-        chosen[4],
-        cursor.next,
-    ]
-}
-
-// The cursor in cells; where the first is above 1, one that no walk has.
-fn cursor_in(cells: &[u32; 10]) -> Cursor
-    ensures { λ r. ⌜ r ≡ cursorIn (now (cells .entry)) ⌝ }
-{
-    if cells[0] > 1 {
-        return Cursor {
-            ended: true,
-            layer: 1,
-            place: 0,
-            filled: 0,
-            chosen: [0; 5],
-            next: 0,
-        };
-    }
-    Cursor {
-        ended: cells[0] == 1,
-        layer: cells[1],
-        place: cells[2],
-        filled: cells[3],
-        chosen: [cells[4], cells[5], cells[6], cells[7], cells[8]],
-        next: cells[9],
-    }
-}
-
-// The number of a stop, 0 where the page is accepted.
-fn stop_number(stop: Stop) -> u32
-    ensures { λ r. ⌜ r ≡ stopNumber stop ⌝ }
-{
-    match stop {
-        Stop::Ended => 0,
-        Stop::Full => 0,
-        Stop::Spent => 0,
-        Stop::Refused(cause) => cause,
-    }
-}
-
-// Why a page stopped, as a cell.
-fn stop_code(stop: Stop) -> u64
-    ensures { λ r. ⌜ r ≡ stopCode stop ⌝ }
-{
-    match stop {
-        Stop::Ended => 1,
-        Stop::Full => 2,
-        Stop::Spent => 3,
-        Stop::Refused(_) => 0,
-    }
-}
-
-// The cells of a page.
-fn page_cells(page: Page) -> [u64; 4]
-    ensures { λ r. ⌜ r ≡ pageCells page ⌝ }
-{
-    let stop = page.stop;
-    [
-        stop_code(stop),
-        page.rows as u64,
-        page.probes as u64,
-        page.area,
-    ]
-}
-
-// The cursor's cells after a page: what is due next, or as given after a refusal.
-fn cursor_after(given: &[u32; 10], page: Page) -> [u32; 10]
-    ensures { λ r. ⌜ r ≡ cursorAfter (now (given .entry)) page ⌝ }
-{
-    let stop = page.stop;
-    if stop_number(stop) != 0 {
-        return *given;
-    }
-    let due = page.cursor;
-    cursor_cells(due)
-}
-
-// The number of a whole run's answer.
-fn run_number(run: Run) -> u32
-    ensures { λ r. ⌜ r ≡ runValues run .number ⌝ }
-{
-    match run {
-        Run::Refused(cause) => cause,
-        Run::Done(_, _, _) => 0,
-    }
-}
-
-// The cells of a whole run's answer.
-fn run_cells(run: Run) -> [u64; 3]
-    ensures { λ r. ⌜ r ≡ runCells (runValues run) ⌝ }
-{
-    match run {
-        Run::Refused(_) => [0, 0, 0],
-        Run::Done(rows, probes, area) => [rows as u64, probes, area],
-    }
 }

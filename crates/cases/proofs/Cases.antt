@@ -1,76 +1,59 @@
 -- The cases hold, as the definitions compute them.
 use mathlib.Core.Path.{refl}
-use Rattle.lists.specs.Lists.{same}
+use mathlib.Core.List.{List, _∷_}
+use Rattle.lists.specs.Lists.{All, none-left, _and_, same}
 use Rattle.geometry.specs.Rectangles.{maxZ, minZ, common, nonempty, meets, inReach, inRange, areaOf}
 use Rattle.plan.specs.Plan.{rectAt, sizeFits, planCause}
-use Rattle.plan.specs.Sweep.{before, sweepOrder}
+use Rattle.sweep.specs.Sweep.{before, sweepOrder}
 use Rattle.join.specs.Join.{areaIn, sameZ}
 use Rattle.join.specs.Table.{same-spot, belongs, tableOf}
-use Rattle.join.specs.RowCall.{isRow, told, rowCall}
+use Rattle.rows.specs.RowCall.{isRow, told, rowCall}
 use Rattle.walk.specs.Walk.{walkOf}
 use Rattle.paging.specs.Cursors.{sameCursor, resume}
-use Rattle.paging.specs.Calls.{freshCause, freshCall, pageCause, pageCall}
+use Rattle.paging.specs.Calls.{freshCause, freshCall, pageCause, pageCall, runCause, runCall}
+use Rattle.decimal.specs.Numerals.{size, decimal}
 use Rattle.decimal.specs.Bytes.{kindOf}
 use Rattle.decimal.specs.Reading.{number}
-use Rattle.text.specs.Parsing.{line, linesOf}
+use Rattle.line.specs.Parsing.{line}
+use Rattle.text.specs.Parsing.{linesOf}
 use Rattle.text.specs.Plans.{shapeIn, agrees}
 use Rattle.text.specs.Reader.{readCause, textShape, textCells}
-use Rattle.cases.specs.Cases.{GroundHolds}
+use Rattle.printing.specs.Lines as Lines
+use Rattle.printing.specs.Lines.{rowFields, squareMetres}
+use Rattle.reporting.specs.Report.{runTableCells, reportCause, reportOf}
+use Rattle.cases.specs.Cases.{Case, Holds, GroundHolds}
+
+infixr 20 _also_
+-- one more case holds
+_also_ : {c : Case} {cs : List Case} → Holds c → All Holds cs → All Holds (c ∷ cs)
+_also_ h hs = _and_ h hs
 
 pub ground-holds : GroundHolds
-unfolding maxZ minZ common nonempty meets inReach inRange areaOf rectAt sizeFits planCause before sweepOrder areaIn sameZ same-spot belongs tableOf isRow told rowCall walkOf same sameCursor resume freshCause freshCall pageCause pageCall readCause textShape textCells linesOf line number kindOf shapeIn agrees
-ground-holds = (
-  (refl, refl, refl),
-  (
-    (refl, refl, refl, (refl, refl, refl, tt)),
-    (
-      (refl, refl, refl, (refl, refl, refl, tt)),
-      (
-        (refl, refl, refl, tt),
-        (
-          (refl, refl, refl),
-          (
-            (refl, refl, refl),
-            (
-              refl,
-              (
-                (refl, refl, refl),
-                (
-                  (refl, refl, refl),
-                  (
-                    (refl, refl, refl),
-                    (
-                      (refl, refl),
-                      (
-                        (refl, refl),
-                        (
-                          (refl, refl),
-                          (
-                            (refl, refl),
-                            (
-                              (refl, refl),
-                              (
-                                (refl, refl),
-                                (
-                                  refl,
-                                  (
-                                    refl,
-                                    tt,
-                                  ),
-                                ),
-                              ),
-                            ),
-                          ),
-                        ),
-                      ),
-                    ),
-                  ),
-                ),
-              ),
-            ),
-          ),
-        ),
-      ),
-    ),
-  ),
-)
+unfolding maxZ minZ common nonempty meets inReach inRange areaOf rectAt sizeFits planCause before sweepOrder areaIn sameZ same-spot belongs tableOf isRow told rowCall walkOf same sameCursor resume freshCause freshCall pageCause pageCall readCause textShape textCells linesOf line number kindOf shapeIn agrees size decimal Lines.line rowFields squareMetres runCause runCall runTableCells reportCause reportOf
+ground-holds =
+    (refl, refl, refl)
+    also (refl, refl, refl, (refl, refl, refl, tt))
+    also (refl, refl, refl, (refl, refl, refl, tt))
+    also (refl, refl, refl, tt)
+    also (refl, refl, refl)
+    also (refl, refl, refl)
+    also refl
+    also (refl, refl, refl)
+    also (refl, refl, refl)
+    also (refl, refl, refl)
+    also (refl, refl)
+    also (refl, refl)
+    also (refl, refl)
+    also (refl, refl)
+    also (refl, refl)
+    also (refl, refl)
+    also refl
+    also refl
+    also refl
+    also refl
+    also refl
+    also refl
+    also refl
+    also refl
+    also refl
+    also none-left

@@ -1,14 +1,19 @@
--- Theorem: the cases of 01's "Ground to check" that are marked (P), as one list, and what it means that a case holds of the definitions.
+-- Theorem: the cases of 01's "Ground to check" that are marked (P), and those of its "The report", as one list, and what it means that a case holds of
+-- the definitions.
 use mathlib.Core.Path.{_≡_}
 use mathlib.Core.List.{List, [], _∷_, _++_, map}
 use Prim.Native.Nat.{ℕ}
+use Prim.Native.Char.{code}
+use Prim.Native.String.{String}
+use Prim.Native.String as String
 use lib.IntN.{ℤ, pos}
 use lib.ListN.{length}
+use Rattle.lists.specs.Lists.{All}
 use Rattle.plan.specs.declared.Shape.{Shape}
 use Rattle.plan.specs.Plan.{planCause}
-use Rattle.plan.specs.Sweep.{sweepOrder}
+use Rattle.sweep.specs.Sweep.{sweepOrder}
 use Rattle.join.specs.Table.{tableOf}
-use Rattle.join.specs.RowCall.{rowCall}
+use Rattle.rows.specs.RowCall.{rowCall}
 use Rattle.walk.specs.Walk.{walkOf}
 use Rattle.paging.specs.declared.Cursor.{Cursor}
 use Rattle.paging.specs.declared.Stop.{Stop}
@@ -16,8 +21,9 @@ use Rattle.paging.specs.declared.Stop.the-variants.{Ended, Full, Spent}
 use Rattle.paging.specs.Cursors.{endedCursor}
 use Rattle.paging.specs.Calls.{freshCall, pageCall}
 use Rattle.text.specs.declared.Reading.{Reading}
-use Rattle.text.specs.Lines.{PLAN, LAYER, RECT}
 use Rattle.text.specs.Reader.{readAnswer, cellsAfter}
+use Rattle.printing.specs.Lines.{hundredths, squareMetres}
+use Rattle.reporting.specs.Report.{reportOf}
 
 -- ---- what cases are made of
 -- a row as the report tells it: the guard's layer, the places, the area
@@ -45,6 +51,10 @@ pub data Case : Type 0 where
   Read : List ℕ → List ℤ → Reading → List ℤ → Case
   -- page calls, one after the other, from the fresh cursor on
   Paged : Shape → List ℤ → List Turn → Case
+  -- an area sum, and the square metres that are printed for it
+  Rounded : ℕ → List ℕ → Case
+  -- a text, and what is printed for it
+  Reported : List ℕ → List ℕ → Case
 
 -- what the row call tells of a row
 abbrev pub told : Shape → List ℤ → List ℕ → Told
@@ -63,6 +73,8 @@ Holds (Listed s cells rows probes) = (planCause s cells ≡ 0) × (map (told s c
 Holds (Fresh s cells c) = freshCall s cells (sweepOrder cells) ≡ record { number = 0; cursor = c }
 Holds (Read t cells r after) = (readAnswer (length cells) t ≡ r) × (cellsAfter t cells ≡ after)
 Holds (Paged s cells ts) = Turns s cells (freshCall s cells (sweepOrder cells) .cursor) ts
+Holds (Rounded area printed) = squareMetres (hundredths area) ≡ printed
+Holds (Reported t printed) = reportOf t ≡ printed
 
 -- ---- the plans
 abbrev pub box : (left bottom right top : ℕ) → List ℤ → List ℤ
@@ -99,13 +111,32 @@ abbrev pub same : List ℤ
 same = box 2 2 4 4 one
 
 -- ---- the texts
+-- the bytes of a quoted text of characters below 128
+abbrev pub bytes : String → List ℕ
+bytes String.[] = []
+bytes (String._∷_ c s) = code c ∷ bytes s
+
 -- a text that is sound where the right of its RECT, spelled so, is from 0 to 1000000
-abbrev pub textWith : List ℕ → List ℕ
-textWith right = PLAN ++ 50 ∷ 10 ∷ LAYER ++ 49 ∷ 10 ∷ RECT ++ 48 ∷ 9 ∷ 48 ∷ 9 ∷ right ++ 9 ∷ 53 ∷ 10 ∷ LAYER ++ 48 ∷ 10 ∷ []
+abbrev pub textWith : String → List ℕ
+textWith right = bytes "PLAN\t2\nLAYER\t1\nRECT\t0\t0\t" ++ bytes right ++ bytes "\t5\nLAYER\t0\n"
 
 -- that it is refused: the lent cells stay
 abbrev pub refused : List ℕ → ℕ → Case
 refused t cause = Read t (box 7 7 7 7 []) (record { number = cause; shape = shape 0 0 0 0 }) (box 7 7 7 7 [])
+
+-- the plan D as a text, and its report
+abbrev pub dText : List ℕ
+dText = bytes "PLAN\t2\nLAYER\t2\nRECT\t0\t0\t1000\t1000\nRECT\t1000\t0\t2000\t500\nLAYER\t1\nRECT\t500\t500\t1500\t1500\n"
+
+abbrev pub dReport : List ℕ
+dReport = bytes "ROW\t2\t0\t0\t250000\nROW\t1\t1\t0\t0\nTOTAL\t2\t4\t0.25\n"
+
+-- a plan of two rows of 4,900 square millimetres, and its report
+abbrev pub smallText : List ℕ
+smallText = bytes "PLAN\t2\nLAYER\t1\nRECT\t0\t0\t70\t70\nLAYER\t2\nRECT\t0\t0\t70\t70\nRECT\t0\t0\t70\t70\n"
+
+abbrev pub smallReport : List ℕ
+smallReport = bytes "ROW\t1\t0\t0\t4900\nROW\t1\t0\t1\t4900\nTOTAL\t2\t4\t0.01\n"
 
 -- ---- the list
 abbrev pub cases : List Case
@@ -129,22 +160,28 @@ cases =
     ∷ Listed (shape 2 1 1 0) (box 0 0 9 5 (box 10 0 20 5 [])) [] 2
     ∷ Listed (shape 2 1 1 0) (box 0 0 10 5 (box 10 0 20 5 [])) (row 2 (0 ∷ 0 ∷ []) 0 ∷ []) 2
     -- "As the right of a RECT at left 0, in a text otherwise sound: -0 and 07 give 9; 1000001 gives 10; 1000000 is read."
-    ∷ refused (textWith (45 ∷ 48 ∷ [])) 9
-    ∷ refused (textWith (48 ∷ 55 ∷ [])) 9
-    ∷ refused (textWith (49 ∷ 48 ∷ 48 ∷ 48 ∷ 48 ∷ 48 ∷ 49 ∷ [])) 10
-    ∷ Read (textWith (49 ∷ 48 ∷ 48 ∷ 48 ∷ 48 ∷ 48 ∷ 48 ∷ [])) (box 7 7 7 7 (pos 7 ∷ [])) (record { number = 0; shape = shape 2 1 0 0 }) (box 0 0 1000000 5 (pos 7 ∷ []))
+    ∷ refused (textWith "-0") 9
+    ∷ refused (textWith "07") 9
+    ∷ refused (textWith "1000001") 10
+    ∷ Read (textWith "1000000") (box 7 7 7 7 (pos 7 ∷ [])) (record { number = 0; shape = shape 2 1 0 0 }) (box 0 0 1000000 5 (pos 7 ∷ []))
     -- "Empty text gives 9. A text without its last byte 10 gives 9."
     ∷ refused [] 9
-    ∷ refused (PLAN ++ 50 ∷ 10 ∷ LAYER ++ 48 ∷ 10 ∷ LAYER ++ 48 ∷ []) 9
+    ∷ refused (bytes "PLAN\t2\nLAYER\t0\nLAYER\t0") 9
     -- "512 is a size, 513 gives 2": with no cells, the first passes check 2 and has cause 3
     ∷ Caused (shape 2 512 0 0) [] 3
     ∷ Caused (shape 2 513 0 0) [] 2
+    -- "4,999 gives 0.00, 5,000 gives 0.01"
+    ∷ Rounded 4999 (bytes "0.00")
+    ∷ Rounded 5000 (bytes "0.01")
+    ∷ Rounded 250000 (bytes "0.25")
+    -- rounding reaches the digits before the point
+    ∷ Rounded 9994999 (bytes "9.99")
+    ∷ Rounded 9995000 (bytes "10.00")
+    -- "For the plan D .. it prints"
+    ∷ Reported dText dReport
+    -- of two areas that are rounded to 0.00 each, the sum is rounded to 0.01
+    ∷ Reported smallText smallReport
     ∷ []
 
--- all of a list's cases hold
-abbrev pub AllHold : List Case → Type 0
-AllHold [] = Unit {0}
-AllHold (c ∷ cs) = Holds c × AllHold cs
-
 abbrev pub GroundHolds : Type 0
-GroundHolds = AllHold cases
+GroundHolds = All Holds cases

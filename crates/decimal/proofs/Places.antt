@@ -12,6 +12,7 @@ use lib.IntN.{ℤ, pos}
 use lib.ListN.{length, getD, drop, length-drop, drop-of-length-le}
 use lib.Seq.{drop-cons}
 use Rattle.lists.proofs.Tests.{clash, total}
+use Rattle.decimal.specs.Numerals.{mostDigits, mostMore}
 use Rattle.decimal.specs.declared.Digits.{Digits}
 use Rattle.decimal.specs.declared.Kind.{Kind}
 use Rattle.decimal.specs.declared.Kind.the-variants.{Minus, Zero, Digit, Tab, End, Other}
@@ -46,10 +47,10 @@ next-digit s i e = go (total (length s) i)
 
 -- f digits more may come behind those read so far, and what they give is what all of them give from the start
 pub record Going (s : List ℕ) (at first value i f : ℕ) : Type 0 where
-  pub few : f ≤ 6
+  pub few : f ≤ mostMore
   pub inside : i ≤ length s
-  pub small : value < 10 ^ (7 - f)
-  pub same : more f value (drop i s) ≡ more 6 first (drop at s)
+  pub small : value < 10 ^ (mostDigits - f)
+  pub same : more f value (drop i s) ≡ more mostMore first (drop at s)
 
 more-one : (s : List ℕ) (value i f : ℕ) → 0 < f → Next s i → more f value (drop i s) ≡ more (f - 1) (value * 10 + (getD s i 0 - 48)) (drop (i + 1) s)
 more-one s value i zero h n = absurd (omega arith)
@@ -60,8 +61,8 @@ more-one s value i (suc f) h n =
 pub one-more : (s : List ℕ) (at first value i f : ℕ) → 0 < f → Next s i → Going s at first value i f
     → Going s at first (value * 10 + (getD s i 0 - 48)) (i + 1) (f - 1)
 one-more s at first value i f h n g =
-    let e : 7 - (f - 1) ≡ suc (7 - f) = omega (arith, g .few) in
-    let p : 10 ^ (7 - (f - 1)) ≡ 10 ^ (7 - f) * 10 = ap (λ (k : ℕ). 10 ^ k) e ∙ pow-suc 10 (7 - f) in
+    let e : mostDigits - (f - 1) ≡ suc (mostDigits - f) = omega (arith, g .few) in
+    let p : 10 ^ (mostDigits - (f - 1)) ≡ 10 ^ (mostDigits - f) * 10 = ap (λ (k : ℕ). 10 ^ k) e ∙ pow-suc 10 (mostDigits - f) in
     record {
       few = omega (arith, g .few);
       inside = omega (arith, n .inside);
@@ -69,8 +70,8 @@ one-more s at first value i f h n g =
       same = sym (more-one s value i f h n) ∙ g .same;
     }
 
-pub value-small : (value f : ℕ) → value < 10 ^ (7 - f) → value < 10000000
-value-small value f h = omega (arith, powers (7 - f) 7 (omega arith))
+pub value-small : (value f : ℕ) → value < 10 ^ (mostDigits - f) → value < 10 ^ mostDigits
+value-small value f h = omega (arith, powers (mostDigits - f) mostDigits (omega arith))
 
 -- no digit comes next, or none may come
 pub ended : (s : List ℕ) (at first value i f : ℕ) → digitNext (drop i s) ≡ false → Going s at first value i f → MoreFrom s at first (record { value = value; next = i })

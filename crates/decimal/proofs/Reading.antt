@@ -1,4 +1,4 @@
--- A number of at most seven digits is read from its spelling, and whatever is read was spelled so.
+-- A short number is read from its spelling, and whatever is read was spelled so.
 use mathlib.Core.Path.{_≡_, refl, sym, ap, ap₂, _∙_, subst}
 use mathlib.Core.List.{List, [], _∷_, _++_}
 use mathlib.Core.Option.{Option, none, some, Option·some-injective, Option·none-ne-some}
@@ -13,7 +13,7 @@ use borrow.Author.Tests.{ltb-true, lt-ltb}
 use Rattle.lists.proofs.Tests.{total}
 use Rattle.decimal.specs.declared.Kind.{Kind}
 use Rattle.decimal.specs.declared.Kind.the-variants.{Minus, Zero, Digit, Tab, End, Other}
-use Rattle.decimal.specs.Numerals.{digits, size, decimal, numeral, short}
+use Rattle.decimal.specs.Numerals.{digits, size, decimal, numeral, mostDigits, mostMore, short}
 use Rattle.decimal.specs.Bytes.{kindOf, isDigit}
 use Rattle.decimal.specs.Reading.{Reading, more, afterMinus, magnitude, numberAt, number}
 use Rattle.decimal.specs.Places.{digitNext}
@@ -62,12 +62,12 @@ more-spelled (suc f) v (b ∷ t) = go (isDigit (kindOf b)) refl (more-spelled f 
 
 -- ---- a number from 1 on, and read
 
-seven : (c n : ℕ) → Sized c n → n < 10000000 → c ≤ 6
-seven c n s h = go (total c 6)
+few-more : (c n : ℕ) → Sized c n → n < 10 ^ mostDigits → c ≤ mostMore
+few-more c n s h = go (total c mostMore)
   where
-    go : (c ≤ 6) ⊎ (6 < c) → c ≤ 6
+    go : (c ≤ mostMore) ⊎ (mostMore < c) → c ≤ mostMore
     go (inl l) = l
-    go (inr l) = absurd (omega (arith, powers 7 c l, s .least, h))
+    go (inr l) = absurd (omega (arith, powers mostDigits c l, s .least, h))
 
 -- the decimal's first byte is a digit 1 to 9, and from there on the number is read
 pub record Front (n : ℕ) (r : List ℕ) : Type 0 where
@@ -76,11 +76,11 @@ pub record Front (n : ℕ) (r : List ℕ) : Type 0 where
   pub text : decimal n ++ r ≡ first ∷ others
   pub low : 49 ≤ first
   pub high : first ≤ 57
-  pub reads : more 6 (first - 48) others ≡ (n, r)
+  pub reads : more mostMore (first - 48) others ≡ (n, r)
 
-pub front : (n : ℕ) (r : List ℕ) → 0 < n → n < 10000000 → Stops r → Front n r
+pub front : (n : ℕ) (r : List ℕ) → 0 < n → n < 10 ^ mostDigits → Stops r → Front n r
 front n r h k st =
-    let s = sized 19 n (omega (arith, powers 7 20 (lit≤ tt))) in
+    let s = sized 19 n (omega (arith, powers mostDigits 20 (lit≤ tt))) in
     let c : ℕ = s .0 in
     let lo = front-low c n h (s .3) in
     let hi = front-high c n (s .3) in
@@ -91,26 +91,26 @@ front n r h k st =
       text = ap (λ (l : List ℕ). l ++ r) (sym (digits-decimal c n (s .1) (s .3)));
       low = omega arith;
       high = omega arith;
-      reads = rw x (more-digits 6 c n r (seven c n (s .3) k) st);
+      reads = rw x (more-digits mostMore c n r (few-more c n (s .3) k) st);
     }
 
 pub record Fronted (b : ℕ) (t : List ℕ) (n : ℕ) (r : List ℕ) : Type 0 where
   pub text : b ∷ t ≡ decimal n ++ r
   pub least : 0 < n
-  pub below : n < 10000000
+  pub below : n < 10 ^ mostDigits
 
-pub fronted : (b : ℕ) (t : List ℕ) → 49 ≤ b → b ≤ 57 → Fronted b t (more 6 (b - 48) t .0) (more 6 (b - 48) t .1)
+pub fronted : (b : ℕ) (t : List ℕ) → 49 ≤ b → b ≤ 57 → Fronted b t (more mostMore (b - 48) t .0) (more mostMore (b - 48) t .1)
 fronted b t h k =
-    let m : Spelled (b - 48) (more 6 (b - 48) t .0) t (more 6 (b - 48) t .1) 6 = more-spelled 6 (b - 48) t in
-    let n : ℕ = more 6 (b - 48) t .0 in
-    let r : List ℕ = more 6 (b - 48) t .1 in
+    let m : Spelled (b - 48) (more mostMore (b - 48) t .0) t (more mostMore (b - 48) t .1) mostMore = more-spelled mostMore (b - 48) t in
+    let n : ℕ = more mostMore (b - 48) t .0 in
+    let r : List ℕ = more mostMore (b - 48) t .1 in
     let c : ℕ = m .count in
     let s : Sized c n = front-sized c n (omega (arith, m .front)) (omega (arith, m .front)) in
     let x : b ≡ 48 + n / 10 ^ c % 10 = omega (arith, m .front) in
     record {
       text = ap₂ _∷_ x (m .text) ∙ ap (λ (l : List ℕ). l ++ r) (digits-decimal c n (omega (arith, m .few)) s);
-      least = omega (arith, m .front, div-le-self (more 6 (b - 48) t .0) (10 ^ c));
-      below = omega (arith, s .below, powers (suc c) 7 (omega (arith, m .few)));
+      least = omega (arith, m .front, div-le-self (more mostMore (b - 48) t .0) (10 ^ c));
+      below = omega (arith, s .below, powers (suc c) mostDigits (omega (arith, m .few)));
     }
 
 -- ---- numbers
@@ -119,10 +119,10 @@ pub number-reads : (z : ℤ) (r : List ℕ) → short z ≡ true → Stops r →
 unfolding number numeral
 number-reads (pos zero) r h st = unfold decimal size kindOf in refl
 number-reads (pos (suc n)) r h st =
-    let f = front (suc n) r (omega arith) (ltb-true (suc n) 10000000 h) st in
+    let f = front (suc n) r (omega arith) (ltb-true (suc n) (10 ^ mostDigits) h) st in
     rw (f .text, kind-digit (f .first) (f .low) (f .high), f .reads)
 number-reads (negsuc n) r h st =
-    let f = front (suc n) r (omega arith) (ltb-true (suc n) 10000000 h) st in
+    let f = front (suc n) r (omega arith) (ltb-true (suc n) (10 ^ mostDigits) h) st in
     unfold kindOf in rw (f .text, kind-digit (f .first) (f .low) (f .high), f .reads)
 
 pub record Numbered (t : List ℕ) (z : ℤ) (r : List ℕ) : Type 0 where
@@ -143,17 +143,17 @@ unfolding numeral
 negative-numeral zero h = absurd (omega arith)
 negative-numeral (suc n) h = refl
 
-negative-short : (n : ℕ) → n < 10000000 → short (negℤ (pos n)) ≡ true
+negative-short : (n : ℕ) → n < 10 ^ mostDigits → short (negℤ (pos n)) ≡ true
 negative-short zero h = refl
-negative-short (suc n) h = lt-ltb (suc n) 10000000 h
+negative-short (suc n) h = lt-ltb (suc n) (10 ^ mostDigits) h
 
 after-minus : (k : Kind) (b : ℕ) (t : List ℕ) (z : ℤ) (r : List ℕ) → Is k b → afterMinus k b t ≡ some (z, r) → Numbered (45 ∷ b ∷ t) z r
 after-minus Minus b t z r h e = never e
 after-minus Zero b t z r h e = never e
 after-minus Digit b t z r h e =
-    let f : Fronted b t (more 6 (b - 48) t .0) (more 6 (b - 48) t .1) = fronted b t (h .0) (h .1) in
-    let n : ℕ = more 6 (b - 48) t .0 in
-    same-pair (Numbered (45 ∷ b ∷ t)) (negℤ (pos n)) z (more 6 (b - 48) t .1) r e
+    let f : Fronted b t (more mostMore (b - 48) t .0) (more mostMore (b - 48) t .1) = fronted b t (h .0) (h .1) in
+    let n : ℕ = more mostMore (b - 48) t .0 in
+    same-pair (Numbered (45 ∷ b ∷ t)) (negℤ (pos n)) z (more mostMore (b - 48) t .1) r e
     (record { text = rw (negative-numeral n (f .least)) (ap (λ (l : List ℕ). 45 ∷ l) (f .text)); few = negative-short n (f .below) })
 after-minus Tab b t z r h e = never e
 after-minus End b t z r h e = never e
@@ -169,9 +169,9 @@ number-at Minus b t z r h e = rw h (behind-minus t z r e)
 number-at Zero b t z r h e =
     same-pair (Numbered (b ∷ t)) (pos 0) z t r e (record { text = rw h (unfold decimal size in refl); few = refl })
 number-at Digit b t z r h e =
-    let f : Fronted b t (more 6 (b - 48) t .0) (more 6 (b - 48) t .1) = fronted b t (h .0) (h .1) in
-    same-pair (Numbered (b ∷ t)) (pos (more 6 (b - 48) t .0)) z (more 6 (b - 48) t .1) r e
-    (record { text = f .text; few = lt-ltb (more 6 (b - 48) t .0) 10000000 (f .below) })
+    let f : Fronted b t (more mostMore (b - 48) t .0) (more mostMore (b - 48) t .1) = fronted b t (h .0) (h .1) in
+    same-pair (Numbered (b ∷ t)) (pos (more mostMore (b - 48) t .0)) z (more mostMore (b - 48) t .1) r e
+    (record { text = f .text; few = lt-ltb (more mostMore (b - 48) t .0) (10 ^ mostDigits) (f .below) })
 number-at Tab b t z r h e = never e
 number-at End b t z r h e = never e
 number-at Other b t z r h e = never e

@@ -2,7 +2,7 @@
 use mathlib.Core.Path.{_≡_, refl}
 use mathlib.Core.Bool.{true, false}
 use mathlib.Core.List.{_∷_}
-use Prim.Native.Nat.{ℕ, zero, suc, _<_}
+use Prim.Native.Nat.{ℕ, zero, suc, _^_, _<_}
 use native.Mathlib.Omega.{arith}
 use lib.Dec.{T}
 use lib.IntN.{ℤ, pos, negsuc, negℤ, natAbs, _-ℤ_}
@@ -11,11 +11,11 @@ use mir.Syntax.{w32, w64}
 use mir.Val.{SFits, Fits}
 use borrow.Author.Tests.{ltb-true}
 use Rattle.geometry.proofs.Integers.{zarith, one-side, sub-law, size-law, nonNeg-law, →sfits}
-use Rattle.decimal.specs.Numerals.{decimal, numeral, short}
+use Rattle.decimal.specs.Numerals.{decimal, numeral, mostDigits, short}
 
 module _ (z : ℤ) (h : short z ≡ true) where
-  few : natAbs z < 10000000
-  few = ltb-true (natAbs z) 10000000 h
+  few : natAbs z < 10 ^ mostDigits
+  few = ltb-true (natAbs z) (10 ^ mostDigits) h
 
   pub short-fits : SFits w32 z
   short-fits = →sfits w32 z (omega (zarith, few, size-law z, one-side z))
@@ -51,5 +51,5 @@ pub below-zero : (n : ℕ) → pos 0 -ℤ pos n ≡ negℤ (pos n)
 below-zero zero = refl
 below-zero (suc n) = omega (zarith, sub-law (pos 0) (pos (suc n)), one-side (pos 0 -ℤ pos (suc n)))
 
-pub below-fits : (n : ℕ) → n < 10000000 → SFits w32 (pos 0 -ℤ pos n)
+pub below-fits : (n : ℕ) → n < 10 ^ mostDigits → SFits w32 (pos 0 -ℤ pos n)
 below-fits n h = →sfits w32 (pos 0 -ℤ pos n) (omega (zarith, sub-law (pos 0) (pos n), one-side (pos 0 -ℤ pos n)))

@@ -1,5 +1,5 @@
 -- Laws of bytes that are put one run behind the other.
-use mathlib.Core.Path.{_≡_, refl, ap, _∙_}
+use mathlib.Core.Path.{_≡_, refl, sym, ap, _∙_}
 use mathlib.Core.List.{List, [], _∷_, _++_}
 use Prim.Native.Nat.{ℕ, suc, _+_, _≤_, _<_}
 use native.Mathlib.Nat.{zero-add}
@@ -25,9 +25,39 @@ module _ {A : Type 0} where
   pub put-length : (buf last cells : List A) (at r : ℕ) → Put buf at cells last r → length last ≡ length buf
   put-length buf last cells at r p = ap length (p .stored) ∙ length-sets buf at cells
 
+  pub put-one : (buf : List A) (at : ℕ) (b : A) → Put buf at (b ∷ []) (set buf at b) (at + 1)
+  put-one buf at b = record { place = refl; stored = refl }
+
   -- a cell, and then the others from the next place on
   pub put-first : (buf last cells : List A) (at r : ℕ) (b : A) → Put (set buf at b) (at + 1) cells last r → Put buf at (b ∷ cells) last r
   put-first buf last cells at r b p = record { place = omega (arith, p .place); stored = rw add-one at (p .stored) }
+
+  -- `whole` is xs, and ys behind them
+  pub record Joined (xs ys whole : List A) : Type 0 where
+    pub joins : xs ++ ys ≡ whole
+
+  module _ {xs ys whole : List A} (j : Joined xs ys whole) where
+    long : length whole ≡ length xs + length ys
+    long = sym (ap length (j .joins)) ∙ length-append xs ys
+
+    -- where the whole has room, so have xs ..
+    pub first-room : (buf : List A) (at : ℕ) → at + length whole ≤ length buf → at + length xs ≤ length buf
+    first-room buf at h = omega (arith, long)
+
+    module _ {buf mid : List A} {at m : ℕ} (p : Put buf at xs mid m) where
+      -- .. and ys behind them
+      pub second-room : at + length whole ≤ length buf → m + length ys ≤ length mid
+      second-room h = omega (arith, p .place, put-length buf mid xs at m p, long)
+
+      pub put-then : {last : List A} {r : ℕ} → Put mid m ys last r → Put buf at whole last r
+      put-then {last} {r} q =
+          record {
+            place = omega (arith, p .place, q .place, long);
+            stored =
+                q .stored
+                ∙ (ap (λ (i : ℕ). sets mid i ys) (p .place)
+                ∙ (ap (λ (b : List A). sets b (at + length xs) ys) (p .stored) ∙ (sets-append xs ys buf at ∙ ap (sets buf at) (j .joins))));
+          }
 
   -- `rest` is left to be put from `at` on, and then `whole` has been put into `first` from `start` on
   pub record Left (first : List A) (start : ℕ) (whole buf : List A) (at : ℕ) (rest : List A) : Type 0 where

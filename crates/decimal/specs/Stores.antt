@@ -1,4 +1,4 @@
--- Runs of cells, or of bytes, put into a buffer.
+-- Runs of cells, or of bytes, put into a buffer; no public call's contract cites this.
 use mathlib.Core.Path.{_≡_}
 use mathlib.Core.List.{List}
 use Prim.Native.Nat.{ℕ, _+_}

@@ -1,6 +1,6 @@
 // Whole numbers in base ten: read at a place of a text and put at a place of a buffer. A number that is
-// read has at most seven digits; any unsigned number of 64 bits is put. Every power of ten is read from
-// one table, through one function.
+// read is short: it has at most `mostDigits` digits. Any unsigned number of 64 bits is put. Every power of
+// ten is read from one table, through one function.
 mod table;
 
 use table::power;
@@ -9,10 +9,13 @@ ghost use mathlib.Core.Bool.{true, false};
 ghost use Prim.Native.Nat.{_+_, _^_, _<_, _≤_};
 ghost use lib.ListN.{length, drop};
 ghost use lib.IntN.{natAbs};
-ghost use Rattle.decimal.specs.Numerals.{size, decimal, numeral, short};
+ghost use Rattle.decimal.specs.Numerals.{size, decimal, numeral, mostDigits, short};
 ghost use Rattle.decimal.specs.Bytes.{kindOf, isDigit};
 ghost use Rattle.decimal.specs.Places.{digitNext, minusNext, MoreFrom, sign, zeroAt, digitsFrom, numberFrom};
 ghost use Rattle.decimal.specs.Stores.{Put};
+
+// The most digits of a number behind its first: `mostMore`.
+const MORE: usize = 6;
 
 // What a byte of a number is, by its range.
 pub enum Kind {
@@ -36,7 +39,7 @@ pub struct Digits {
     pub next: usize,
 }
 
-// How many digits n has. Up to seven, which no number of a plan exceeds, are told without a loop.
+// How many digits n has. Up to seven are told without a loop.
 pub fn size_of(n: u64) -> usize
     ensures { λ r. ⌜ r ≡ size 19 n ⌝ }
 {
@@ -112,7 +115,7 @@ pub fn put_word(buf: &mut [u8], at: usize, word: &[u8]) -> usize
     at + i
 }
 
-// A number of at most seven digits without its sign.
+// A short number without its sign.
 fn magnitude_of(z: i32) -> u64
     requires { ⌜ short z ≡ true ⌝ }
     ensures { λ r. ⌜ r ≡ natAbs z ⌝ }
@@ -123,7 +126,7 @@ fn magnitude_of(z: i32) -> u64
     z as u64
 }
 
-// How many bytes a number of at most seven digits takes.
+// How many bytes a short number takes.
 pub fn numeral_size(z: i32) -> usize
     requires { ⌜ short z ≡ true ⌝ }
     ensures { λ r. ⌜ r ≡ length (numeral z) ⌝ }
@@ -135,7 +138,7 @@ pub fn numeral_size(z: i32) -> usize
     n
 }
 
-// A number of at most seven digits from a place of the buffer on; the place behind it.
+// A short number from a place of the buffer on; the place behind it.
 pub fn put_number(buf: &mut [u8], at: usize, z: i32) -> usize
     requires { ⌜ (short z ≡ true) × (at + length (numeral z) ≤ length (now buf)) ⌝ }
     ensures { λ r. ⌜ Put (now (buf .entry)) at (numeral z) (now (buf .exit)) r ⌝ }
@@ -182,14 +185,14 @@ fn digit_next(s: &[u8], i: usize) -> bool
     false
 }
 
-// Up to six digits more, behind a first one.
+// Up to MORE digits more, behind a first one.
 fn more_digits(s: &[u8], at: usize, first: u32) -> Digits
     requires { ⌜ (first ≤ 9) × (at ≤ length (now s)) ⌝ }
     ensures { λ r. ⌜ MoreFrom (now (s .entry)) at first r ⌝ }
 {
     let mut value = first;
     let mut i = at;
-    let mut f: usize = 6;
+    let mut f: usize = MORE;
     while 0 < f {
         if !digit_next(s, i) {
             return Digits { value, next: i };
@@ -203,7 +206,7 @@ fn more_digits(s: &[u8], at: usize, first: u32) -> Digits
 
 // A magnitude as a number above 0, or below it.
 fn signed(n: u32, minus: bool) -> i32
-    requires { ⌜ n < 10000000 ⌝ }
+    requires { ⌜ n < 10 ^ mostDigits ⌝ }
     ensures { λ r. ⌜ r ≡ sign minus n ⌝ }
 {
     if minus {

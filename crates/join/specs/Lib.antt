@@ -1,5 +1,3 @@
 pub mod Join
 pub mod Table
-pub mod RowCall
 pub mod Theorems
-pub mod Grounds

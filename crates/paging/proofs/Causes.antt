@@ -13,7 +13,7 @@ use Rattle.plan.specs.declared.Shape.{Shape}
 use Rattle.geometry.specs.declared.Rect.{Rect}
 use Rattle.plan.specs.Causes.{onCause}
 use Rattle.plan.specs.Plan.{planCause}
-use Rattle.plan.specs.Sweep.{sweepOrder}
+use Rattle.sweep.specs.Sweep.{sweepOrder}
 use Rattle.join.specs.Table.{tableOf}
 use Rattle.search.specs.Traversal.{Probe, Row}
 use Rattle.search.specs.Paging.{Halt, Ended, Full, Spent, Paged}
@@ -23,8 +23,7 @@ use Rattle.paging.specs.declared.Page.{Page}
 use Rattle.paging.specs.Cursors.{endedCursor, resume}
 use Rattle.paging.specs.Calls.{capacity, named, freshCause, freshCall, pageCause, stopOf, stopNumber, paged, pageOf, refusedPage, pageCall, pageTable, runCause, RunValues, refusedRun, runCall, runTable}
 use Rattle.paging.specs.Theorems.{Good, CallCauses, Call, cause, Refuses}
-use Rattle.plan.proofs.Plan.{or-else-zero}
-use Rattle.plan.proofs.Plan.{plan-most, or-else-most, unless-most, check-passed, check-failed, check-others}
+use Rattle.plan.proofs.Plan.{or-else-zero, plan-most, or-else-most, unless-most, check-passed, check-failed, check-others}
 use Rattle.paging.proofs.Named.{resumes}
 
 -- the sweep order is not refused

@@ -14,7 +14,7 @@ use Rattle.lists.proofs.Numbers.{same-refl, same-eq}
 use Rattle.geometry.specs.declared.Rect.{Rect}
 use Rattle.plan.specs.declared.Shape.{Shape}
 use Rattle.plan.specs.Plan.{sizesOf}
-use Rattle.plan.specs.Sweep.{spotOf}
+use Rattle.plan.specs.Spots.{spotOf}
 use Rattle.search.specs.Traversal.{Probe}
 use Rattle.paging.specs.declared.Cursor.{Cursor}
 use Rattle.paging.specs.Cursors.{cursorOf, endedCursor, sameCursor}

@@ -9,7 +9,7 @@ use lib.IntN.{ℤ}
 use lib.ListN.{length, take, drop, take-append-drop}
 use lib.Seq.{take-append-seam}
 use Rattle.lists.specs.Lists.{All}
-use Rattle.lists.proofs.Lists.{all-at}
+use Rattle.lists.proofs.Lists.{all-at, all-parts}
 use Rattle.lists.proofs.Kept.{map-++}
 use Rattle.plan.specs.declared.Shape.{Shape}
 use Rattle.plan.specs.Plan.{Sound}
@@ -24,7 +24,6 @@ use Rattle.walk.proofs.Theorems.{walk-is-table}
 use Rattle.paging.specs.declared.Stop.the-variants.{Ended}
 use Rattle.paging.specs.Cursors.{dueCursor}
 use Rattle.paging.specs.Theorems.{Call, cause, answer, handed, reported, allowing, Last}
-use Rattle.lists.proofs.Lists.{all-parts}
 use Rattle.paging.proofs.Calls.{pageOn, answered, Agrees, stop-is, answered-some}
 use Rattle.paging.proofs.Lasts.{Refuses, last-or-none, last-none, last-is}
 use Rattle.paging.proofs.Chains.{Delivers, reported-same, allowing-same, handed-same}

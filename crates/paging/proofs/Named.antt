@@ -16,10 +16,12 @@ use Rattle.lists.proofs.Kept.{length-without}
 use Rattle.geometry.specs.declared.Rect.{Rect}
 use Rattle.plan.specs.declared.Shape.{Shape}
 use Rattle.plan.specs.Plan.{count, sizesOf, layers, Sound}
-use Rattle.plan.specs.Sweep.{Spot, spotOf, rectOf, sweepOrder}
+use Rattle.plan.specs.Spots.{Spot, spotOf, rectOf}
+use Rattle.sweep.specs.Sweep.{sweepOrder}
 use Rattle.plan.proofs.Plan.{framed}
-use Rattle.plan.proofs.Sweep.{sweep-is}
-use Rattle.plan.proofs.Spots.{layers-long, has-layer, rect-number, sweeps}
+use Rattle.sweep.proofs.Sweep.{sweep-is}
+use Rattle.plan.proofs.Spots.{layers-long, has-layer, rect-number}
+use Rattle.sweep.proofs.Spots.{sweeps}
 use Rattle.search.specs.Traversal.{Probe}
 use Rattle.search.specs.Names.{Named}
 use Rattle.walk.specs.Walk.{guardAt, walkOf}

@@ -11,12 +11,11 @@ use Rattle.geometry.specs.declared.Rect.{Rect}
 use Rattle.plan.specs.declared.Shape.{Shape}
 use Rattle.search.specs.Traversal.{Probe, Row, rowOf}
 use Rattle.search.specs.Paging.{Paged, page, Ended, Full, Spent, Halt}
-use Rattle.search.proofs.Paging.{page-rows, page-room, page-ended, page-all, page-going, page-rest}
+use Rattle.search.proofs.Paging.{page-rows, page-room, page-ended, page-all, page-going, page-rest, page-full, page-spent}
 use Rattle.walk.specs.Walk.{placesOf, rowArea}
 use Rattle.paging.specs.Cursors.{resume, dueCursor}
 use Rattle.paging.specs.Calls.{capacity, fill, pageOf, pageCall, pageTable, stopOf}
 use Rattle.paging.specs.Theorems.{Call, cause, answer, after, PageHolds}
-use Rattle.search.proofs.Paging.{page-full, page-spent}
 use Rattle.paging.proofs.Resume.{resume-is}
 use Rattle.paging.proofs.Tables.{places-filled, fill-long, fill-kept, walk-long}
 use Rattle.paging.proofs.Calls.{stop-is, accepted-plan}

@@ -9,7 +9,7 @@ use borrow.Author.Tests.{leb-true, le-leb, lt-leb}
 use Rattle.plan.specs.declared.Shape.{Shape}
 use Rattle.plan.specs.Causes.{unless}
 use Rattle.plan.specs.Plan.{Sound}
-use Rattle.plan.specs.Sweep.{sweepOrder}
+use Rattle.sweep.specs.Sweep.{sweepOrder}
 use Rattle.join.specs.Table.{tableOf}
 use Rattle.paging.specs.Calls.{capacity, runCause, runCall, runTable}
 use Rattle.paging.specs.Theorems.{RunHolds}

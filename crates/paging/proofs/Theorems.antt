@@ -14,7 +14,7 @@ use Rattle.lists.proofs.Tests.{clash}
 use Rattle.geometry.specs.declared.Rect.{Rect}
 use Rattle.plan.specs.declared.Shape.{Shape}
 use Rattle.plan.specs.Plan.{planCause, Sound}
-use Rattle.plan.specs.Sweep.{sweepOrder}
+use Rattle.sweep.specs.Sweep.{sweepOrder}
 use Rattle.join.specs.Table.{tableOf}
 use Rattle.join.proofs.Theorems.{tables}
 use Rattle.search.specs.Traversal.{Probe, rowOf}

@@ -11,7 +11,7 @@ use Rattle.geometry.specs.declared.Rect.{Rect}
 use Rattle.plan.specs.declared.Shape.{Shape}
 use Rattle.plan.specs.Causes.{unless, _orElse_, onCause}
 use Rattle.plan.specs.Plan.{layers, planCause}
-use Rattle.plan.specs.Sweep.{sweepOrder}
+use Rattle.sweep.specs.Sweep.{sweepOrder}
 use Rattle.join.specs.Join.{areaIn}
 use Rattle.join.specs.Table.{tableOf}
 use Rattle.search.specs.Traversal.{Probe, Row, rowOf}

@@ -13,7 +13,8 @@ use lib.ListN.{length, getD, take, drop}
 use Rattle.lists.specs.Lists.{All, sum, keep}
 use Rattle.plan.specs.declared.Shape.{Shape}
 use Rattle.plan.specs.Plan.{sizesOf, layers, planCause, Sound}
-use Rattle.plan.specs.Sweep.{Has, spotOf, sweepOrder}
+use Rattle.plan.specs.Spots.{Has, spotOf}
+use Rattle.sweep.specs.Sweep.{sweepOrder}
 use Rattle.join.specs.Join.{areaIn}
 use Rattle.join.specs.Table.{tableOf}
 use Rattle.join.specs.Theorems.{TableHolds}

@@ -1,6 +1,3 @@
 pub mod Plan
-pub mod Merging
-pub mod Sweep
-pub mod Orders
 pub mod Spots
 pub mod Theorems

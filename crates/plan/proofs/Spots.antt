@@ -1,33 +1,26 @@
--- Numbers and spots: a plan's order of numbers is its sweep order by left, layer and place.
-use mathlib.Core.Path.{_≡_, refl, sym, ap, _∙_}
-use mathlib.Core.List.{List, [], _∷_, map, List·Memᴰ, Memᴰ·map, Memᴰ·cast}
+-- Laws of spots: the number of each, and its rectangle as it lies in the cells.
+use mathlib.Core.Path.{_≡_, refl, ap, _∙_}
+use mathlib.Core.List.{List, [], _∷_}
 use mathlib.Core.Bool.{Bool, true, false, cond}
-use mathlib.Core.Logic.{_⊎_, inl, inr, ⊎-elim}
+use mathlib.Core.Logic.{_⊎_, inl, inr}
 use Prim.Native.Nat.{ℕ, zero, suc, _+_, _-_, _*_, _≤_, _<_}
 use native.Mathlib.Omega.{arith}
 use lib.IntN.{ℤ, pos}
-use lib.Signed.{_≤ℤ_, _<ℤ_}
 use lib.Dec.{ltb}
 use lib.ListN.{length, getD, take, drop}
 use lib.Seq.{getD-drop, getD-take}
 use borrow.Author.Tests.{ltb-true, ltb-false, lt-ltb, le-ltb}
-use Rattle.lists.specs.Lists.{All, none-left, _and_, Pairwise, sum}
-use Rattle.lists.proofs.Lists.{all-map, all-at, all-of-map, pairwise-of-map, pairwise-with}
-use Rattle.geometry.specs.declared.Rect.{Rect}
-use Rattle.geometry.specs.Rectangles.{inRange}
-use Rattle.geometry.proofs.Integers.{zarith, total-le}
+use Rattle.lists.specs.Lists.{All, none-left, _and_, sum}
 use Rattle.geometry.proofs.Machine.{rect-eq}
-use Rattle.plan.specs.Plan.{rectAt, count, Layer, layersOf}
-use Rattle.plan.specs.Frames.{Framed}
-use Rattle.plan.specs.Sweep.{Spot, nextLayer, spotOf, layerAt, Has, rectOf, Earlier, by-left, by-layer, by-place, before, sweepOrder}
-use Rattle.plan.proofs.Sweep.{leftAt, before-is, sweep-is, sweep-has}
+use Rattle.plan.specs.Plan.{rectAt, Layer, layersOf}
+use Rattle.plan.specs.Spots.{Spot, nextLayer, spotOf, layerAt, Has, rectOf}
 
 -- ---- numbers and spots
 -- the number of the rectangle at place p of layer i
-abbrev numberAt : List ℕ → ℕ → ℕ → ℕ
+abbrev pub numberAt : List ℕ → ℕ → ℕ → ℕ
 numberAt ns i p = sum (take i ns) + p
 
-number-small : (ns : List ℕ) (i p : ℕ) → p < getD ns i 0 → numberAt ns i p < sum ns
+pub number-small : (ns : List ℕ) (i p : ℕ) → p < getD ns i 0 → numberAt ns i p < sum ns
 number-small [] i p h = absurd (omega arith)
 number-small (n ∷ ns) zero p h = omega arith
 number-small (n ∷ ns) (suc i) p h = omega (arith, number-small ns i p h)
@@ -50,10 +43,10 @@ number-spot (n ∷ ns) k = go (ltb k n) refl (number-spot ns (k - n))
     go false e i = omega (arith, ltb-false k n e)
 
 -- numbers ascend by layer, then place
-abbrev Ahead : Spot → Spot → Type 0
+abbrev pub Ahead : Spot → Spot → Type 0
 Ahead a b = (a .layer < b .layer) ⊎ ((a .layer ≡ b .layer) × (a .place < b .place))
 
-spots-ascend : (ns : List ℕ) (j k : ℕ) → j < k → Ahead (spotOf ns j) (spotOf ns k)
+pub spots-ascend : (ns : List ℕ) (j k : ℕ) → j < k → Ahead (spotOf ns j) (spotOf ns k)
 spots-ascend [] j k h = inr (refl, h)
 spots-ascend (n ∷ ns) j k h = go (ltb j n) refl (ltb k n) refl (λ i. spots-ascend ns (j - n) (k - n) i)
   where
@@ -93,7 +86,7 @@ rect-number (n ∷ ns) cells k h = go (ltb k n) refl (rect-number ns (drop (4 * 
     go true e i = (rect-take cells n k (ltb-true k n e), ltb-true k n e)
     go false e i = let q = i (omega (arith, ltb-false k n e)) in (q .0 ∙ rect-drop cells n k (ltb-false k n e), q .1)
 
-size-of : (ns : List ℕ) (cells : List ℤ) (i : ℕ) → layerAt (layersOf ns cells) i .size ≡ getD ns i 0
+pub size-of : (ns : List ℕ) (cells : List ℤ) (i : ℕ) → layerAt (layersOf ns cells) i .size ≡ getD ns i 0
 size-of [] cells i = refl
 size-of (n ∷ ns) cells zero = refl
 size-of (n ∷ ns) cells (suc i) = size-of ns (drop (4 * n) cells) i
@@ -110,76 +103,3 @@ has-layer (l ∷ ls) (suc i) p h = omega (arith, has-layer ls i p h)
 pub layers-small : (m : ℕ) {ns : List ℕ} (cells : List ℤ) → All (λ n. n ≤ m) ns → All (λ l. l .size ≤ m) (layersOf ns cells)
 layers-small m cells none-left = none-left
 layers-small m cells (_and_ h hs) = _and_ h (layers-small m _ hs)
-
--- no two rectangles are each before the other
-pub earlier-asym : {ls : List Layer} {a b : Spot} → Earlier ls a b → Earlier ls b a → ⊥
-earlier-asym (by-left h) (by-left k) = omega zarith
-earlier-asym (by-left h) (by-layer p k) = omega zarith
-earlier-asym (by-left h) (by-place p q k) = omega zarith
-earlier-asym (by-layer e h) (by-left k) = omega zarith
-earlier-asym (by-layer e h) (by-layer p k) = omega arith
-earlier-asym (by-layer e h) (by-place p q k) = omega arith
-earlier-asym (by-place e f h) (by-left k) = omega zarith
-earlier-asym (by-place e f h) (by-layer p k) = omega arith
-earlier-asym (by-place e f h) (by-place p q k) = omega arith
-
--- all rectangles of the layers, by left, then layer, then place
-pub record Sweep (ls : List Layer) (spots : List Spot) : Type 0 where
-  pub sound : All (Has ls) spots
-  pub complete : (s : Spot) → Has ls s → List·Memᴰ s spots
-  pub ascending : Pairwise (Earlier ls) spots
-
--- ---- a plan: four cells a rectangle
-module _ (sizes : List ℕ) (cells : List ℤ) (whole : length cells ≡ 4 * sum sizes) where
-  counted : count cells ≡ sum sizes
-  counted = omega arith
-
-  left-at : (k : ℕ) → k < count cells → rectOf (layersOf sizes cells) (spotOf sizes k) .left ≡ leftAt cells k
-  left-at k h = ap (λ (r : Rect). r .left) (rect-number sizes cells k (omega (arith, counted)) .0)
-
-  pub earlier : (j k : ℕ) → j < count cells → k < count cells → before cells j k ≡ true → Earlier (layersOf sizes cells) (spotOf sizes j) (spotOf sizes k)
-  earlier j k h i e = go (before-is cells j k e)
-    where
-      p : rectOf (layersOf sizes cells) (spotOf sizes j) .left ≡ leftAt cells j
-      p = left-at j h
-
-      q : rectOf (layersOf sizes cells) (spotOf sizes k) .left ≡ leftAt cells k
-      q = left-at k i
-
-      tie : leftAt cells j ≡ leftAt cells k → Ahead (spotOf sizes j) (spotOf sizes k) → Earlier (layersOf sizes cells) (spotOf sizes j) (spotOf sizes k)
-      tie z (inl a) = by-layer (p ∙ (z ∙ sym q)) a
-      tie z (inr a) = by-place (p ∙ (z ∙ sym q)) (a .0) (a .1)
-
-      less : leftAt cells j <ℤ leftAt cells k → Earlier (layersOf sizes cells) (spotOf sizes j) (spotOf sizes k)
-      less z = by-left (rw (p, q) z)
-
-      go : (leftAt cells j <ℤ leftAt cells k) ⊎ ((leftAt cells j ≤ℤ leftAt cells k) × (j < k)) → Earlier (layersOf sizes cells) (spotOf sizes j) (spotOf sizes k)
-      go (inl z) = less z
-      go (inr z) = ⊎-elim (λ y. tie (omega zarith) (spots-ascend sizes j k (z .1))) less (total-le (leftAt cells k) (leftAt cells j))
-
-  -- each number is that of a rectangle
-  pub plan-has : All (λ k. Has (layersOf sizes cells) (spotOf sizes k)) (sweepOrder cells)
-  plan-has = all-map (λ k h. rect-number sizes cells k (omega (arith, counted)) .1) (sweep-is cells .below)
-
-  -- the order of numbers, as spots, is the sweep order
-  pub sweeps : Sweep (layersOf sizes cells) (map (spotOf sizes) (sweepOrder cells))
-  sweeps = record {
-    sound = all-of-map (spotOf sizes) plan-has;
-    complete = λ s h. has s (rw size-of at h);
-    ascending = pairwise-of-map (spotOf sizes) (λ a b h. h) (pairwise-with earlier (sweep-is cells .below) (sweep-is cells .ascending));
-  }
-    where
-      has : (s : Spot) → s .place < getD sizes (s .layer) 0 → List·Memᴰ s (map (spotOf sizes) (sweepOrder cells))
-      has s h =
-          let k = numberAt sizes (s .layer) (s .place) in
-          Memᴰ·cast (sym (spot-number sizes (s .layer) (s .place) h))
-          (Memᴰ·map (spotOf sizes) (sweep-has cells (sweep-is cells) k (omega (arith, counted, number-small sizes (s .layer) (s .place) h))))
-
--- every rectangle of a sound plan is in range
-pub rects-ranged : (sizes : List ℕ) (cells : List ℤ) → Framed sizes cells → (s : Spot) → Has (layersOf sizes cells) s → inRange (rectOf (layersOf sizes cells) s) ≡ true
-rects-ranged sizes cells f s h =
-    all-at {P = λ s. inRange (rectOf (layersOf sizes cells) s) ≡ true} (all-of-map (spotOf sizes) (all-map ranged (sweep-is cells .below)))
-    (sweeps sizes cells (f .whole) .complete s h)
-  where
-    ranged : (k : ℕ) → k < count cells → inRange (rectOf (layersOf sizes cells) (spotOf sizes k)) ≡ true
-    ranged k p = let l : k < sum sizes = omega (arith, f .whole) in ap inRange (rect-number sizes cells k l .0) ∙ f .ranged k l

@@ -1,5 +1,5 @@
--- The promises on causes hold of every plan, those on the sweep order of every sound one.
-use mathlib.Core.Path.{_≡_, refl, sym, ap, _∙_}
+-- The promises on causes hold of every plan.
+use mathlib.Core.Path.{_≡_, refl}
 use mathlib.Core.List.{List, [], _∷_}
 use mathlib.Core.Bool.{Bool, true, false, _&&_, _||_}
 use mathlib.Core.Logic.{_↔_, _⊎_, inl, inr}
@@ -11,16 +11,12 @@ use lib.ListN.{length, getD}
 use borrow.Author.Tests.{le-leb, leb-true, eq-eqb, eqb-true, le-ltb, lt-ltb}
 use Rattle.lists.specs.Lists.{Tells, sum}
 use Rattle.lists.proofs.Tests.{both, and-true, total, tells}
-use Rattle.lists.proofs.Lists.{all-at, pairwise-with, ordered-unique}
 use Rattle.geometry.proofs.Rectangles.{ranged, in-range}
 use Rattle.plan.specs.declared.Shape.{Shape}
 use Rattle.plan.specs.Causes.{unless, _orElse_}
-use Rattle.plan.specs.Plan.{count, sizesOf, sizeFits, sizesFit, allRanged, planCause, Sound}
-use Rattle.plan.specs.Sweep.{sweepOrder, orderCause}
-use Rattle.plan.specs.Theorems.{Layered, Sized, Filled, AllIn, CausesHold, AllBelow, Swept, SweepHolds, OrderCauses, Plans}
-use Rattle.plan.proofs.Plan.{check-passed, check-failed, check-others, plan-most, Checked, checked, count-is, front-sum, ranged-at, ranged-all}
-use Rattle.plan.proofs.Sweep.{sweep-is, sweep-has, sweep-distinct}
-use Rattle.plan.proofs.Spots.{spot-number, rect-number, earlier, earlier-asym}
+use Rattle.plan.specs.Plan.{count, sizeFits, sizesFit, allRanged, planCause}
+use Rattle.plan.specs.Theorems.{Layered, Sized, Filled, AllIn, CausesHold, Plans}
+use Rattle.plan.proofs.Plan.{ranged-at, ranged-all}
 
 -- ---- causes
 -- what each test tells
@@ -111,44 +107,5 @@ causes-hold s cells = record { none = f .none; one = f .one; two = f .two; three
         (tells _ (eqb-true (length cells) (4 * sum (s .sizes))) (eq-eqb (length cells) (4 * sum (s .sizes))))
         (tells _ (λ e i h. ranged _ (ranged-at cells (count cells) i e h)) (λ h. ranged-all cells (count cells) (λ i k. in-range _ (h i k))))
 
--- ---- the sweep order
-sweep-holds : (s : Shape) (cells : List ℤ) → Sound s cells → SweepHolds s cells
-sweep-holds s cells h = record {
-  counted = count-is s cells c;
-  numbering = λ j p k. spot-number (sizesOf s) j p k;
-  spots = λ i p. let r = rect-number (sizesOf s) cells i (omega (arith, front)) in (r .1, r .0);
-  permutes = permutes;
-  once = sweep-distinct cells (sweep-is cells);
-  ascending = ascending;
-  only = λ l n a. ordered-unique l (sweepOrder cells) (λ x y. earlier-asym) a ascending (λ i m. permutes i .1 (n i .0 m)) (λ i m. n i .1 (permutes i .0 m));
-}
-  where
-    c : Checked s cells
-    c = checked s cells h
-
-    front : sum (sizesOf s) ≡ sum (s .sizes)
-    front = front-sum s cells c
-
-    whole : length cells ≡ 4 * sum (sizesOf s)
-    whole = c .whole ∙ ap (λ (n : ℕ). 4 * n) (sym front)
-
-    permutes : AllBelow (sum (s .sizes)) (sweepOrder cells)
-    permutes i = (λ m. omega (arith, count-is s cells c, all-at (sweep-is cells .below) m), λ p. sweep-has cells (sweep-is cells) i (omega (arith, count-is s cells c)))
-
-    ascending : Swept s cells (sweepOrder cells)
-    ascending = pairwise-with (earlier (sizesOf s) cells whole) (sweep-is cells .below) (sweep-is cells .ascending)
-
--- ---- the order maker's causes
-order-causes : (s : Shape) (cells : List ℤ) (order : List ℕ) → OrderCauses s cells order
-unfolding orderCause
-order-causes s cells order =
-    let n = sum (s .sizes) in
-    let t = tells (eqb (length order) n) (eqb-true (length order) n) (eq-eqb (length order) n) in
-    record {
-      made = check-passed (planCause s cells) 7 (λ z. t);
-      eight = check-failed (planCause s cells) 7 (omega (arith, plan-most s cells)) (λ z. t);
-      earlier = λ m p l. check-others (planCause s cells) (eqb (length order) n) 8 m p (λ e. omega arith);
-    }
-
 pub plans : Plans
-plans = record { causes = causes-hold; order = order-causes; sweep = sweep-holds }
+plans = record { causes = causes-hold }

@@ -1,6 +1,5 @@
 pub mod Causes
 pub mod Plan
-pub mod Sweep
+pub mod Spots
 pub mod Theorems
-pub mod Merging
 pub mod Frames

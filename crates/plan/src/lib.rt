@@ -1,46 +1,20 @@
-// A plan: its shape, its cells, the checks that let it through, and its sweep order.
+// A plan: its shape, its cells, and the checks that let it through.
 //
 // A shape goes by value beside the lent cells. Rectangles are read by `rect_at` alone, from all cells or from one layer's.
 mod checks;
-mod order;
 
 pub use checks::plan_cause;
 pub use checks::sum_of;
 use geometry::Rect;
-pub use order::is_order;
 ghost use mathlib.Core.Path.{_≡_};
 ghost use Prim.Native.Nat.{_+_, _*_, _≤_};
 ghost use lib.ListN.{length, take, drop};
 ghost use Rattle.plan.specs.Plan.{rectAt};
-ghost use Rattle.plan.specs.Sweep.{orderAnswer, orderCause, orderNumber, orderAfter};
 
 // A plan's k and six sizes.
 pub struct Shape {
     pub k: u32,
     pub sizes: [u32; 6],
-}
-
-// What the order maker answers.
-pub enum OrderAnswer {
-    Made,
-    Refused(u32),
-}
-
-// Makes the sweep order of a plan in a lent buffer, or tells why not.
-pub fn make_order(shape: Shape, cells: &[i32], order: &mut [u32]) -> OrderAnswer
-    ensures answer { λ r. ⌜ r ≡ orderAnswer (orderCause shape (now (cells .entry)) (now (order .entry))) ⌝ }
-    ensures number { λ r. ⌜ orderNumber r ≡ orderCause shape (now (cells .entry)) (now (order .entry)) ⌝ }
-    ensures buffer { λ _. ⌜ now (order .exit) ≡ orderAfter shape (now (cells .entry)) (now (order .entry)) ⌝ }
-{
-    let cause = plan_cause(shape, cells);
-    if cause != 0 {
-        return OrderAnswer::Refused(cause);
-    }
-    if order.len() != cells.len() / 4 {
-        return OrderAnswer::Refused(8);
-    }
-    order::fill(cells, order);
-    OrderAnswer::Made
 }
 
 // The cells of the layer that begins after `start` rectangles.

@@ -1,6 +1,5 @@
 -- Laws of the report.
-pub mod Printing
-pub mod Rows
 pub mod Reports
+pub mod Runs
 pub mod Texts
 pub mod Theorems

@@ -10,17 +10,15 @@ use lib.Seq.{take-at}
 use borrow.Author.Tests.{le-leb, lt-leb}
 use Rattle.lists.specs.Lists.{sum}
 use Rattle.lists.proofs.Tests.{total}
-use Rattle.plan.specs.declared.Shape.{Shape}
-use Rattle.plan.specs.Plan.{Sound}
 use Rattle.text.specs.declared.Reading.{Reading}
 use Rattle.text.specs.Reader.{readCause, textShape, textCells, readAnswer, cellsAfter}
 use Rattle.text.proofs.Theorems.{round-trip}
 use Rattle.decimal.specs.Stores.{Put}
 use Rattle.decimal.proofs.Stores.{put-start, put-length}
-use Rattle.reporting.specs.Lines.{refusedLine}
+use Rattle.printing.specs.Lines.{refusedLine}
+use Rattle.printing.proofs.Lines.{refused-few}
 use Rattle.reporting.specs.Report.{reportOf, reportCause, roomForAny, putInto, outAfter}
-use Rattle.reporting.specs.Parts.{planReport}
-use Rattle.reporting.proofs.Printing.{refused-few}
+use Rattle.reporting.specs.Parts.{first, Lent, planReport}
 use Rattle.reporting.proofs.Reports.{plan-longest}
 
 pub long-text : (t : List ℕ) → 65536 < length t → reportOf t ≡ refusedLine 13
@@ -37,9 +35,6 @@ module _ (t : List ℕ) (short : length t ≤ 65536) where
   unfolding reportOf reportCause planReport
   plan-text e = rw (le-leb (length t) 65536 short, e)
 
-pub shape-given : (t : List ℕ) (r : Reading) → r ≡ readAnswer 12288 t → readCause 12288 t ≡ 0 → r .shape ≡ textShape t
-shape-given t r e z = ap (λ (x : Reading). x .shape) e ∙ rw z
-
 -- no report is longer
 pub never-longer : (t : List ℕ) → length (reportOf t) ≤ roomForAny
 never-longer t = go (total (length t) 65536)
@@ -52,24 +47,35 @@ never-longer t = go (total (length t) 65536)
     go (inl h) = read h (readCause 12288 t) refl
     go (inr h) = rw (long-text t h) (omega (arith, refused-few 13))
 
--- the plan that an accepted text gives, in cells
-pub record Given (t : List ℕ) (s : Shape) (cells : List ℤ) : Type 0 where
-  pub fits : 4 * sum (s .sizes) ≤ length cells
-  pub sound : Sound s (take (4 * sum (s .sizes)) cells)
-  pub is : planReport s (take (4 * sum (s .sizes)) cells) ≡ planReport (textShape t) (textCells t)
+-- ---- what the reader answers where 12,288 cells are lent
+module _ (t : List ℕ) (cells : List ℤ) (r : Reading) (short : length t ≤ 65536) (long : length cells ≡ 12288) (e : r ≡ readAnswer (length cells) t) (f : r .number ≡ readCause (length cells) t) where
+  pub refused-reading : (r .number ≡ 0 → ⊥) → reportOf t ≡ refusedLine (r .number)
+  refused-reading h = refused-text t short (r .number) (rw long at f) h
 
-pub given : (t : List ℕ) (cells after : List ℤ) (s : Shape) → readCause 12288 t ≡ 0 → length cells ≡ 12288 → s ≡ textShape t → after ≡ cellsAfter t cells → Given t s after
-given t cells after s e long f g =
-    let p = round-trip .only 12288 t e in
-    let rest = drop (length (textCells t)) cells in
-    let a : after ≡ textCells t ++ rest = g ∙ rw (long, e) in
-    let front = take-at (textCells t) rest (4 * sum (textShape t .sizes)) (p .four) in
-    rw (f, a)
-    (record {
-      fits = omega (arith, p .four, length-append (textCells t) rest);
-      sound = rw front (p .sound);
-      is = rw front;
-    })
+  module _ (after : List ℤ) (h : r .number ≡ 0) (g : after ≡ cellsAfter t cells) where
+    accepted : readCause 12288 t ≡ 0
+    accepted = sym (rw long at f) ∙ h
+
+    -- the shape and the cells of the text's plan
+    shape-read : r .shape ≡ textShape t
+    shape-read = ap (λ (x : Reading). x .shape) (rw long at e) ∙ rw accepted
+
+    cells-read : after ≡ textCells t ++ drop (length (textCells t)) cells
+    cells-read = g ∙ rw (long, accepted)
+
+    first-read : first (r .shape) after ≡ textCells t
+    first-read = rw (shape-read, cells-read) (take-at (textCells t) (drop (length (textCells t)) cells) (4 * sum (textShape t .sizes)) (round-trip .only 12288 t accepted .four))
+
+    pub plan-lent : Lent (r .shape) after
+    plan-lent =
+        let p = round-trip .only 12288 t accepted in
+        record {
+          fits = rw (shape-read, cells-read) (omega (arith, p .four, length-append (textCells t) (drop (length (textCells t)) cells)));
+          sound = rw (first-read, shape-read) (p .sound);
+        }
+
+    pub plan-reading : reportOf t ≡ planReport (r .shape) (first (r .shape) after)
+    plan-reading = plan-text t short accepted ∙ rw (first-read, shape-read)
 
 -- ---- the buffer
 -- r bytes stand at its start, said twice, so that the part that they are can be lent

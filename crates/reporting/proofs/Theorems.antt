@@ -21,7 +21,7 @@ use Rattle.text.specs.Reader.{readCause, textShape, textCells}
 use Rattle.text.specs.Theorems.{PlanText}
 use Rattle.text.proofs.Text.{measured}
 use Rattle.text.proofs.Theorems.{Verdict, not-formed, no-plan, of, verdict, shape-back, cells-back, round-trip}
-use Rattle.reporting.specs.Lines.{rowLines, totalLine, refusedLine}
+use Rattle.printing.specs.Lines.{rowLines, totalLine, refusedLine}
 use Rattle.reporting.specs.Report.{runTableCells, reportOf}
 use Rattle.reporting.specs.Parts.{planReport}
 use Rattle.reporting.specs.Theorems.{Prints, Reports}

@@ -1,29 +1,36 @@
--- What the parts of the report promise one another: no public contract cites it.
+-- What the parts of the report promise one another; no public call's contract cites it.
 use mathlib.Core.Path.{_≡_}
-use mathlib.Core.Bool.{true}
-use mathlib.Core.List.{List, [], _∷_, _++_}
-use Prim.Native.Nat.{ℕ}
+use mathlib.Core.List.{List}
+use Prim.Native.Nat.{ℕ, _*_, _≤_}
 use lib.IntN.{ℤ}
-use Rattle.lists.specs.Lists.{All}
-use Rattle.decimal.specs.Numerals.{decimal}
+use lib.ListN.{length, take}
+use Rattle.lists.specs.Lists.{sum}
 use Rattle.plan.specs.declared.Shape.{Shape}
 use Rattle.plan.specs.Causes.{onCause}
-use Rattle.plan.specs.Plan.{Layer}
-use Rattle.plan.specs.Sweep.{sweepOrder}
-use Rattle.join.specs.RowCall.{isRow}
-use Rattle.paging.specs.Calls.{runCause}
-use Rattle.reporting.specs.Lines.{refusedLine}
+use Rattle.plan.specs.Plan.{Sound}
+use Rattle.sweep.specs.Sweep.{sweepOrder}
+use Rattle.paging.specs.declared.Run.{Run}
+use Rattle.paging.specs.Calls.{runCause, runCall, runTable, runAnswer}
+use Rattle.printing.specs.Lines.{refusedLine}
 use Rattle.reporting.specs.Report.{runTableCells, tableReport}
-
--- numbers, each behind its tab
-abbrev pub tabbed : List ℕ → List ℕ
-tabbed [] = []
-tabbed (n ∷ ns) = 9 ∷ decimal n ++ tabbed ns
-
--- each is a row of the join
-abbrev pub AllRows : List Layer → List (List ℕ) → Type 0
-AllRows ls rows = All (λ row. isRow ls row ≡ true) rows
 
 -- what is printed for a plan
 unfoldable pub planReport : Shape → List ℤ → List ℕ
 planReport s cells = onCause (runCause s cells (sweepOrder cells) runTableCells) (tableReport s cells) refusedLine
+
+-- the first cells, four for each rectangle of a shape
+abbrev pub first : Shape → List ℤ → List ℤ
+first s lent = take (4 * sum (s .sizes)) lent
+
+-- they are the cells of a sound plan
+pub record Lent (s : Shape) (lent : List ℤ) : Type 0 where
+  pub fits : 4 * sum (s .sizes) ≤ length lent
+  pub sound : Sound s (first s lent)
+
+-- a whole run of a sound plan, in its sweep order and into 12,288 cells: its answer, and the table that it left
+pub record Ran (s : Shape) (cells : List ℤ) (run : Run) (table : List ℕ) : Type 0 where
+  pub sound : Sound s cells
+  pub lent : List ℕ
+  pub long : length lent ≡ 12288
+  pub answer : run ≡ runAnswer (runCall s cells (sweepOrder cells) lent)
+  pub filled : table ≡ runTable s cells (sweepOrder cells) lent

@@ -8,11 +8,11 @@ use lib.ListN.{length, drop, replicate}
 use Rattle.plan.specs.declared.Shape.{Shape}
 use Rattle.plan.specs.Causes.{unless, _orElse_, onCause}
 use Rattle.plan.specs.Plan.{layers}
-use Rattle.plan.specs.Sweep.{sweepOrder}
+use Rattle.sweep.specs.Sweep.{sweepOrder}
 use Rattle.join.specs.Table.{tableOf}
 use Rattle.paging.specs.Calls.{RunValues, runCause, runCall}
 use Rattle.text.specs.Reader.{readCause, textShape, textCells}
-use Rattle.reporting.specs.Lines.{rowLines, totalLine, refusedLine}
+use Rattle.printing.specs.Lines.{rowLines, totalLine, refusedLine}
 
 -- 01: "makes a whole run into 12,288 cells"
 unfoldable pub runTableCells : List ℕ

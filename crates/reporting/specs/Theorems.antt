@@ -11,7 +11,7 @@ use Rattle.join.specs.Table.{tableOf}
 use Rattle.walk.specs.Walk.{walkOf}
 use Rattle.text.specs.Parsing.{wellFormed}
 use Rattle.text.specs.Theorems.{PlanText}
-use Rattle.reporting.specs.Lines.{rowLines, totalLine, refusedLine}
+use Rattle.printing.specs.Lines.{rowLines, totalLine, refusedLine}
 use Rattle.reporting.specs.Report.{reportOf, roomForAny}
 
 -- what is printed for t, in each case

@@ -1,24 +1,22 @@
 // The report on a plan text, as bytes: a line for each row and the total, or a refusal (01, "The report").
-mod lines;
-
 use libc::STDIN_FILENO;
 use libc::STDOUT_FILENO;
-use lines::put_refused;
-use lines::put_table;
 use pager::run_all;
 use paging::Run;
 use plan::Shape;
-use plan::make_order;
 use plan::sum_of;
+use printing::put_refused;
+use printing::put_table;
+use sweep::make_order;
 use text::read;
 ghost use mathlib.Core.Path.{_≡_};
-ghost use Prim.Native.Nat.{_*_, _≤_};
+ghost use Prim.Native.Nat.{_≤_};
 ghost use lib.ListN.{length, take, replicate};
-ghost use Rattle.lists.specs.Lists.{sum};
 ghost use Rattle.plan.specs.Plan.{count, Sound};
+ghost use Rattle.sweep.specs.Sweep.{sweepOrder};
 ghost use Rattle.decimal.specs.Stores.{Put};
 ghost use Rattle.reporting.specs.Report.{roomForAny, reportOf, putInto, outAfter};
-ghost use Rattle.reporting.specs.Parts.{planReport};
+ghost use Rattle.reporting.specs.Parts.{first, Lent, Ran, planReport};
 
 // The longest input.
 const LONGEST_INPUT: usize = 65536;
@@ -75,17 +73,25 @@ fn report_on(text: &[u8], out: &mut [u8]) -> usize
         return put_refused(out, 0, 13);
     }
     let mut cells = [0i32; 12288];
-    let reading = read(text, &mut cells);
+    report_text(text, &mut cells, out)
+}
+
+// The report on a text that is not too long, with the cells that it is read into.
+fn report_text(text: &[u8], cells: &mut [i32], out: &mut [u8]) -> usize
+    requires { ⌜ (length (now text) ≤ 65536) × (length (now cells) ≡ 12288) × (roomForAny ≤ length (now out)) ⌝ }
+    ensures { λ r. ⌜ Put (now (out .entry)) 0 (reportOf (now (text .entry))) (now (out .exit)) r ⌝ }
+{
+    let reading = read(text, cells);
     if reading.number != 0 {
         return put_refused(out, 0, reading.number);
     }
-    report_plan(reading.shape, &cells, out)
+    report_plan(reading.shape, cells, out)
 }
 
 // The report on a sound plan, whose cells stand first in the lent ones.
 fn report_plan(shape: Shape, lent: &[i32], out: &mut [u8]) -> usize
-    requires { ⌜ (4 * sum (shape .sizes) ≤ length (now lent)) × Sound shape (take (4 * sum (shape .sizes)) (now lent)) × (roomForAny ≤ length (now out)) ⌝ }
-    ensures { λ r. ⌜ Put (now (out .entry)) 0 (planReport shape (take (4 * sum (shape .sizes)) (now (lent .entry)))) (now (out .exit)) r ⌝ }
+    requires { ⌜ Lent shape (now lent) × (roomForAny ≤ length (now out)) ⌝ }
+    ensures { λ r. ⌜ Put (now (out .entry)) 0 (planReport shape (first shape (now (lent .entry)))) (now (out .exit)) r ⌝ }
 {
     let n = 4 * sum_of(&shape.sizes);
     let mut order = [0u32; 3072];
@@ -105,11 +111,11 @@ fn report_cells(
     ensures { λ r. ⌜ Put (now (out .entry)) 0 (planReport shape (now (cells .entry))) (now (out .exit)) r ⌝ }
 {
     let n = cells.len() / 4;
-    report_run(shape, cells, &mut order[..n], table, out)
+    report_sound(shape, cells, &mut order[..n], table, out)
 }
 
 // The same, with a buffer for the order that is as long as the order.
-fn report_run(
+fn report_sound(
     shape: Shape,
     cells: &[i32],
     order: &mut [u32],
@@ -120,7 +126,30 @@ fn report_run(
     ensures { λ r. ⌜ Put (now (out .entry)) 0 (planReport shape (now (cells .entry))) (now (out .exit)) r ⌝ }
 {
     make_order(shape, cells, order);
-    match run_all(shape, cells, order, table) {
+    report_ordered(shape, cells, order, table, out)
+}
+
+// The same, with the order.
+fn report_ordered(
+    shape: Shape,
+    cells: &[i32],
+    order: &[u32],
+    table: &mut [u32],
+    out: &mut [u8],
+) -> usize
+    requires { ⌜ Sound shape (now cells) × (now order ≡ sweepOrder (now cells)) × (length (now table) ≡ 12288) × (roomForAny ≤ length (now out)) ⌝ }
+    ensures { λ r. ⌜ Put (now (out .entry)) 0 (planReport shape (now (cells .entry))) (now (out .exit)) r ⌝ }
+{
+    let run = run_all(shape, cells, order, table);
+    report_run(run, shape, cells, table, out)
+}
+
+// The report on what the whole run answered, and the table that it left.
+fn report_run(run: Run, shape: Shape, cells: &[i32], table: &[u32], out: &mut [u8]) -> usize
+    requires { ⌜ Ran shape (now cells) run (now table) × (roomForAny ≤ length (now out)) ⌝ }
+    ensures { λ r. ⌜ Put (now (out .entry)) 0 (planReport shape (now (cells .entry))) (now (out .exit)) r ⌝ }
+{
+    match run {
         Run::Refused(cause) => put_refused(out, 0, cause),
         Run::Done(rows, probes, area) => put_table(
             out,

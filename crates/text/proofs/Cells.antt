@@ -10,12 +10,13 @@ use lib.ListN.{length, set, drop, length-drop, drop-of-length-le}
 use Rattle.lists.proofs.Tests.{clash}
 use Rattle.decimal.specs.Stores.{Put}
 use Rattle.decimal.proofs.Stores.{Left, left-all, left-put, left-none, left-room}
-use Rattle.text.specs.declared.Line.{Line}
-use Rattle.text.specs.declared.Line.the-variants.{Plan, Layer, Rectangle}
-use Rattle.text.specs.Parsing.{next, line, allLines, isSome}
+use Rattle.line.specs.declared.Line.{Line}
+use Rattle.line.specs.declared.Line.the-variants.{Plan, Layer, Rectangle}
+use Rattle.line.specs.Parsing.{next, line}
+use Rattle.text.specs.Parsing.{allLines, isSome}
 use Rattle.text.specs.Plans.{cellsIn}
 use Rattle.text.specs.Reader.{linesOr}
-use Rattle.text.specs.Places.{Line-at}
+use Rattle.line.specs.Places.{Line-at}
 use Rattle.text.specs.Filling.{restCells, Room}
 use Rattle.text.proofs.Parsing.{first-then, first-none}
 

@@ -17,11 +17,12 @@ use Rattle.geometry.proofs.Integers.{zarith, size-law, one-side, nonNeg-law}
 use Rattle.plan.specs.Causes.{unless}
 use Rattle.text.specs.declared.Tally.{Tally}
 use Rattle.text.specs.Counting.{noneYet, unformed, spoilt, pick, sizeRight, layerRight, withLayer, addLayer, withRect, addRect, addLine, addLines, addIf, tallyFrom, Few, layersRight, tallyCause}
-use Rattle.text.specs.declared.Line.{Line}
-use Rattle.text.specs.declared.Line.the-variants.{Plan, Layer, Rectangle}
-use Rattle.text.specs.Parsing.{next, line, allLines}
+use Rattle.line.specs.declared.Line.{Line}
+use Rattle.line.specs.declared.Line.the-variants.{Plan, Layer, Rectangle}
+use Rattle.line.specs.Parsing.{next, line}
+use Rattle.text.specs.Parsing.{allLines}
 use Rattle.text.proofs.Parsing.{first-then, first-none}
-use Rattle.text.specs.Places.{Line-at}
+use Rattle.line.specs.Places.{Line-at}
 
 -- ---- whether a LAYER line may come
 module _ (t : Tally) (n : ℤ) where

@@ -12,15 +12,16 @@ use lib.ListN.{length, drop}
 use borrow.Author.Tests.{le-leb, lt-leb}
 use Rattle.lists.proofs.Tests.{clash}
 use Rattle.plan.specs.Causes.{unless, _orElse_}
-use Rattle.text.specs.declared.Line.{Line}
-use Rattle.text.specs.declared.Line.the-variants.{Plan, Layer, Rectangle}
+use Rattle.line.specs.declared.Line.{Line}
+use Rattle.line.specs.declared.Line.the-variants.{Plan, Layer, Rectangle}
 use Rattle.text.specs.declared.Tally.{Tally}
 use Rattle.text.specs.declared.Decision.{Decision}
-use Rattle.text.specs.Lines.{inner, allInner, headed}
-use Rattle.text.specs.Parsing.{next, only, line, allLines, linesOf, isSome}
+use Rattle.text.specs.Spelling.{inner, allInner, headed}
+use Rattle.line.specs.Parsing.{next, line}
+use Rattle.text.specs.Parsing.{only, allLines, linesOf, isSome}
 use Rattle.text.specs.Plans.{cellsIn, shapeIn, agrees}
 use Rattle.text.specs.Reader.{linesCause, readCause, textShape, textCells}
-use Rattle.text.specs.Places.{Line-at}
+use Rattle.line.specs.Places.{Line-at}
 use Rattle.text.specs.Counting.{noneYet, unformed, addLayer, addRect, addLines, addIf, tallyFrom, tallyCause}
 use Rattle.text.specs.Filling.{restCells, refused, Decided}
 use Rattle.text.proofs.Parsing.{first-then, first-none}

@@ -12,11 +12,12 @@ use Rattle.lists.proofs.Tests.{both, and-true}
 use Rattle.decimal.specs.Stores.{Put}
 use Rattle.decimal.proofs.Stores.{Left, left-all, left-none}
 use Rattle.decimal.proofs.Places.{at-byte}
-use Rattle.text.specs.declared.Line.{Line}
-use Rattle.text.specs.declared.Line.the-variants.{Layer}
-use Rattle.text.specs.Lines.{spell, shortLine, allShort}
+use Rattle.line.specs.declared.Line.{Line}
+use Rattle.line.specs.declared.Line.the-variants.{Layer}
+use Rattle.text.specs.Spelling.{spell, allShort}
+use Rattle.line.specs.Lines.{shortLine}
 use Rattle.text.specs.Plans.{rectLines, layerLines}
-use Rattle.text.proofs.Fields.{left-lines, lines-room}
+use Rattle.text.proofs.Spelling.{left-lines, lines-room}
 
 short-parts : (ls ms : List Line) → allShort (ls ++ ms) ≡ true → (allShort ls ≡ true) × (allShort ms ≡ true)
 short-parts [] ms e = (refl, e)

@@ -1,4 +1,4 @@
--- Laws of the lengths of lines, and of RECT lines from a place on.
+-- Laws of the lengths of RECT lines and of LAYER lines, from a place on.
 use mathlib.Core.Path.{_≡_, refl, ap, _∙_}
 use mathlib.Core.List.{List, [], _∷_}
 use mathlib.Core.Bool.{true}
@@ -6,35 +6,19 @@ use Prim.Native.Nat.{ℕ, zero, suc, _+_, _*_, _≤_, _<_}
 use native.Mathlib.Omega.{arith}
 use native.Mathlib.Numerals.{add-one}
 use lib.IntN.{ℤ, pos}
-use lib.ListN.{length, getD, drop, length-append, drop-of-length-le}
+use lib.ListN.{length, getD, drop, drop-of-length-le}
 use Rattle.lists.proofs.Tests.{both}
 use Rattle.geometry.specs.declared.Rect.{Rect}
 use Rattle.plan.specs.Plan.{rectAt}
-use Rattle.decimal.specs.Numerals.{size, numeral}
-use Rattle.decimal.proofs.Numerals.{length-decimal, size-most, numeral-few}
 use Rattle.decimal.proofs.Places.{at-byte}
-use Rattle.text.specs.declared.Line.{Line}
-use Rattle.text.specs.declared.Line.the-variants.{Plan, Layer, Rectangle}
-use Rattle.text.specs.Lines.{spellTo, spell, shortRect, allShort}
+use Rattle.line.specs.declared.Line.{Line}
+use Rattle.line.specs.declared.Line.the-variants.{Layer, Rectangle}
+use Rattle.line.specs.Lines.{spellTo, shortRect}
+use Rattle.text.specs.Spelling.{spell, allShort}
 use Rattle.text.specs.Plans.{rectLines}
 use Rattle.text.specs.Lengths.{layersLength}
-use Rattle.text.proofs.Places.{spell-front}
+use Rattle.line.proofs.Lengths.{spell-length, layer-most, rect-most}
 use Rattle.text.proofs.Sound.{next-rect}
-
--- ---- one line
-pub rect-length : (r : Rect) → length (spellTo (Rectangle r) []) ≡ 9 + length (numeral (r .left)) + length (numeral (r .bottom)) + length (numeral (r .right)) + length (numeral (r .top))
-rect-length r = simp length-append (omega arith)
-
-pub plan-length : (n : ℕ) → length (spellTo (Plan (pos n)) []) ≡ 6 + size 19 n
-unfolding numeral
-plan-length n = simp length-append (omega (arith, length-decimal n))
-
-pub layer-length : (n : ℕ) → length (spellTo (Layer (pos n)) []) ≡ 7 + size 19 n
-unfolding numeral
-layer-length n = simp length-append (omega (arith, length-decimal n))
-
-pub spell-length : (l : Line) (r : List ℕ) → length (spellTo l r) ≡ length (spellTo l []) + length r
-spell-length l r = ap length (spell-front l r) ∙ length-append (spellTo l []) r
 
 -- ---- RECT lines, from a place on
 pub rects-next : (p : ℕ) (cells : List ℤ) → 4 * p + 4 ≤ length cells → rectLines (drop (4 * p) cells) ≡ Rectangle (rectAt cells p) ∷ rectLines (drop (4 * suc p) cells)
@@ -60,11 +44,11 @@ rects-few (suc n) (a ∷ b ∷ []) e = absurd (omega arith)
 rects-few (suc n) (a ∷ b ∷ c ∷ []) e = absurd (omega arith)
 rects-few (suc n) (a ∷ b ∷ c ∷ d ∷ cells) e =
     let r : Rect = record { left = a; bottom = b; right = c; top = d } in
-    omega (arith, spell-length (Rectangle r) (spell (rectLines cells)), rect-length r, numeral-few a, numeral-few b, numeral-few c, numeral-few d, rects-few n cells (omega arith))
+    omega (arith, spell-length (Rectangle r) (spell (rectLines cells)), rect-most r, rects-few n cells (omega arith))
 
 pub layers-few : (ns : List ℕ) → layersLength ns ≤ 27 * length ns
 layers-few [] = omega arith
-layers-few (n ∷ ns) = omega (arith, layer-length n, size-most 19 n, layers-few ns)
+layers-few (n ∷ ns) = omega (arith, layer-most n, layers-few ns)
 
 -- ---- rectangle by rectangle
 pub record Measuring (cells : List ℤ) (size p : ℕ) : Type 0 where
@@ -105,13 +89,13 @@ pub layering-start : (ns : List ℕ) → Layering ns 0 0
 layering-start ns = record { within = omega arith; gives = omega arith }
 
 module _ (ns : List ℕ) (length₀ j : ℕ) (l : Layering ns length₀ j) (h : j < length ns) where
-  next-layer : layersLength (drop j ns) ≡ 7 + size 19 (getD ns j 0) + layersLength (drop (j + 1) ns)
-  next-layer = ap layersLength (at-byte ns j h) ∙ omega (arith, layer-length (getD ns j 0))
+  next-layer : layersLength (drop j ns) ≡ length (spellTo (Layer (pos (getD ns j 0))) []) + layersLength (drop (j + 1) ns)
+  next-layer = ap layersLength (at-byte ns j h)
 
-  pub layering-few : length₀ + (7 + size 19 (getD ns j 0)) ≤ 27 * length ns
+  pub layering-few : length₀ + length (spellTo (Layer (pos (getD ns j 0))) []) ≤ 27 * length ns
   layering-few = omega (arith, l .gives, next-layer, layers-few ns)
 
-  pub layering-more : Layering ns (length₀ + (7 + size 19 (getD ns j 0))) (j + 1)
+  pub layering-more : Layering ns (length₀ + length (spellTo (Layer (pos (getD ns j 0))) [])) (j + 1)
   layering-more = record { within = omega arith; gives = omega (arith, l .gives, next-layer) }
 
 pub layering-end : (ns : List ℕ) (length₀ j : ℕ) → length ns ≤ j → Layering ns length₀ j → length₀ ≡ layersLength ns

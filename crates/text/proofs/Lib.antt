@@ -1,8 +1,6 @@
--- Laws of the plan text: lines, plans, the reader, the writer.
-pub mod Lines
+-- Laws of the plan text: its lines, plans, the reader, the writer.
+pub mod Spelling
 pub mod Parsing
-pub mod Words
-pub mod Places
 pub mod Sound
 pub mod Sizes
 pub mod Plans
@@ -15,6 +13,6 @@ pub mod Cells
 pub mod Reader
 pub mod Lengths
 pub mod Text
-pub mod Fields
+pub mod Rects
 pub mod Layers
 pub mod Writer

@@ -1,19 +1,21 @@
 -- Lines are read from their spelling, and whatever is read was spelled so.
-use mathlib.Core.Path.{_≡_, refl, sym, ap, _∙_, subst}
+use mathlib.Core.Path.{_≡_, refl, ap, _∙_, subst}
 use mathlib.Core.List.{List, [], _∷_}
 use mathlib.Core.Option.{Option, none, some, Option·some-injective, Option·none-ne-some}
 use mathlib.Core.Bool.{Bool, true, false, cond}
 use Prim.Native.Nat.{ℕ, zero, suc, _≤_, _<_}
 use native.Mathlib.Nat.{le-refl}
 use native.Mathlib.Omega.{arith}
-use lib.ListN.{length, length-append}
+use lib.ListN.{length}
 use Rattle.lists.proofs.Tests.{both}
 use Rattle.decimal.specs.Reading.{Reading}
-use Rattle.text.specs.declared.Line.{Line}
-use Rattle.text.specs.declared.Line.the-variants.{Plan, Layer, Rectangle}
-use Rattle.text.specs.Lines.{spellTo, spell, headed, shortLine, allShort}
-use Rattle.text.proofs.Lines.{next-some, line-reads, line-spelled}
-use Rattle.text.specs.Parsing.{next, line, linesBy, linesIn, allLines, linesOf}
+use Rattle.line.specs.declared.Line.{Line}
+use Rattle.line.specs.declared.Line.the-variants.{Plan, Layer, Rectangle}
+use Rattle.line.specs.Lines.{spellTo, shortLine}
+use Rattle.text.specs.Spelling.{spell, headed, allShort}
+use Rattle.line.proofs.Lines.{next-some, line-reads, line-spelled, longer, shorter}
+use Rattle.line.specs.Parsing.{next, line}
+use Rattle.text.specs.Parsing.{linesBy, linesIn, allLines, linesOf}
 
 first-line : (g : List ℕ → Option (List Line)) (l : Line) (r : List ℕ)
     → linesBy g (spellTo l r) ≡ next (line (spellTo l r)) (λ p. next (g (p .1)) (λ ls. some (p .0 ∷ ls)))
@@ -49,11 +51,6 @@ lines-spelled (suc f) t ls e = by (linesIn f) (lines-spelled f) t ls e
 
 -- ---- a whole text
 
-pub longer : (l : Line) (r : List ℕ) → suc (length r) ≤ length (spellTo l r)
-longer (Plan k) r = simp length-append (omega arith)
-longer (Layer n) r = simp length-append (omega arith)
-longer (Rectangle b) r = simp length-append (omega arith)
-
 few-lines : (ls : List Line) → length ls ≤ length (spell ls)
 few-lines [] = le-refl 0
 few-lines (l ∷ ls) = omega (arith, longer l (spell ls), few-lines ls)
@@ -81,9 +78,6 @@ spelling-of-lines t ls e = go (next-some (allLines t) _ ls e)
     go k = pick (k .0) (headed (k .0)) refl (k .2) (lines-spelled (length t) t (k .0) (k .1))
 
 -- ---- a line shortens the text, so that as much fuel as there are bytes is enough
-
-pub shorter : (t : List ℕ) (p : Line × List ℕ) → line t ≡ some p → length (p .1) < length t
-shorter t p e = subst (λ (l : List ℕ). length (p .1) < length l) (sym (line-spelled t p e .text)) (longer (p .0) (p .1))
 
 same-by : (g h : List ℕ → Option (List Line)) (b : ℕ) (t : List ℕ) → ((p : Line × List ℕ) → line (b ∷ t) ≡ some p → g (p .1) ≡ h (p .1)) → linesBy g (b ∷ t) ≡ linesBy h (b ∷ t)
 same-by g h b t f = go (line (b ∷ t)) refl

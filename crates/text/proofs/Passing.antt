@@ -12,10 +12,10 @@ use Rattle.lists.specs.Lists.{sum, padded}
 use Rattle.lists.proofs.Tests.{clash, both, and-true}
 use Rattle.geometry.specs.declared.Rect.{Rect}
 use Rattle.geometry.specs.Rectangles.{inRange}
-use Rattle.text.specs.declared.Line.{Line}
-use Rattle.text.specs.declared.Line.the-variants.{Plan, Layer, Rectangle}
+use Rattle.line.specs.declared.Line.{Line}
+use Rattle.line.specs.declared.Line.the-variants.{Plan, Layer, Rectangle}
 use Rattle.text.specs.declared.Tally.{Tally}
-use Rattle.text.specs.Lines.{allInner}
+use Rattle.text.specs.Spelling.{allInner}
 use Rattle.text.specs.Plans.{sizesIn, counted}
 use Rattle.text.specs.Counting.{spoilt, pick, layerRight, withLayer, addLayer, withRect, addRect, addLines}
 use Rattle.text.proofs.Counting.{right}

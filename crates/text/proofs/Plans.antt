@@ -2,7 +2,7 @@
 use mathlib.Core.Path.{_≡_, refl, ap, ap₂, _∙_}
 use mathlib.Core.List.{List, [], _∷_, _++_}
 use mathlib.Core.Bool.{true, _&&_}
-use Prim.Native.Nat.{ℕ, zero, suc, _*_, _≤_}
+use Prim.Native.Nat.{ℕ, zero, suc, _*_, _^_, _≤_}
 use native.Mathlib.Omega.{arith}
 use lib.Dec.{eqb}
 use lib.IntN.{ℤ, pos, negsuc}
@@ -14,9 +14,10 @@ use Rattle.lists.proofs.Tests.{clash, both, and-true}
 use Rattle.plan.specs.declared.Shape.{Shape}
 use Rattle.plan.specs.Plan.{sizesOf, planCause, Sound}
 use Rattle.plan.proofs.Plan.{Checked, checked, front-sum}
-use Rattle.text.specs.declared.Line.{Line}
-use Rattle.text.specs.declared.Line.the-variants.{Plan, Layer, Rectangle}
-use Rattle.text.specs.Lines.{allInner, headed, allShort}
+use Rattle.decimal.specs.Numerals.{mostDigits}
+use Rattle.line.specs.declared.Line.{Line}
+use Rattle.line.specs.declared.Line.the-variants.{Plan, Layer, Rectangle}
+use Rattle.text.specs.Spelling.{allInner, headed, allShort}
 use Rattle.text.specs.Plans.{rectLines, layerLines, planLines, sizesIn, cellsIn, shapeIn, counted, agrees}
 use Rattle.text.proofs.Sound.{passed-sound, lines-small, lines-ranged}
 use Rattle.text.proofs.Sizes.{padded-take, lines-short}
@@ -89,7 +90,7 @@ module _ (s : Shape) (plan : List ℤ) (sound : Sound s plan) where
   plan-short =
       let ls = layerLines (sizesOf s) plan in
       let c = checked (shapeIn (planLines s plan)) (cellsIn (planLines s plan)) (passed-sound (planLines s plan) given-back) in
-      rw (lt-ltb (s .k) 10000000 (omega (arith, fit .high)))
+      rw (lt-ltb (s .k) (10 ^ mostDigits) (omega (arith, fit .high)))
       (lines-short 0 ls (gives .count) (lines-small (s .k) ls count (fit .high) (gives .count) c) (lines-ranged (s .k) ls count (fit .high) (gives .count) c))
 
   pub plan-headed : headed (planLines s plan) ≡ true

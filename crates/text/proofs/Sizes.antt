@@ -2,7 +2,7 @@
 use mathlib.Core.Path.{_≡_, refl, sym, ap, ap₂}
 use mathlib.Core.List.{List, [], _∷_}
 use mathlib.Core.Bool.{true, _||_}
-use Prim.Native.Nat.{ℕ, zero, suc, _+_, _≤_}
+use Prim.Native.Nat.{ℕ, zero, suc, _+_, _^_, _≤_}
 use native.Mathlib.Omega.{arith}
 use lib.Dec.{eqb, leb, ltb}
 use lib.IntN.{ℤ, pos, negsuc, natAbs}
@@ -16,10 +16,11 @@ use Rattle.geometry.specs.Theorems.{Coordinate}
 use Rattle.geometry.proofs.Rectangles as geometry
 use Rattle.lists.specs.Lists.{padded}
 use Rattle.plan.specs.Plan.{sizeFits, sizesFit}
-use Rattle.decimal.specs.Numerals.{short}
-use Rattle.text.specs.declared.Line.{Line}
-use Rattle.text.specs.declared.Line.the-variants.{Plan, Layer, Rectangle}
-use Rattle.text.specs.Lines.{shortRect, allShort}
+use Rattle.decimal.specs.Numerals.{mostDigits, short}
+use Rattle.line.specs.declared.Line.{Line}
+use Rattle.line.specs.declared.Line.the-variants.{Plan, Layer, Rectangle}
+use Rattle.line.specs.Lines.{shortRect}
+use Rattle.text.specs.Spelling.{allShort}
 use Rattle.text.specs.Plans.{sizesIn, counted}
 use Rattle.text.proofs.Sound.{small, ranged}
 
@@ -43,7 +44,7 @@ padded-take (suc m) (suc i) k j (n ∷ ns) l q h e =
 
 -- ---- digits
 coordinate-short : (z : ℤ) → Coordinate z → short z ≡ true
-coordinate-short z c = lt-ltb (natAbs z) 10000000 (omega (zarith, c .0, c .1, size-law z, one-side z))
+coordinate-short z c = lt-ltb (natAbs z) (10 ^ mostDigits) (omega (zarith, c .0, c .1, size-law z, one-side z))
 
 pub rect-short : (r : Rect) → inRange r ≡ true → shortRect r ≡ true
 rect-short r h =
@@ -61,7 +62,7 @@ lines-short due (Plan k ∷ ls) e s r = clash e refl
 lines-short due (Layer (negsuc n) ∷ ls) e s r = clash e refl
 lines-short due (Layer (pos n) ∷ ls) e s r =
     let b = both (leb n 512) (small (sizesIn ls)) s in
-    rw (lt-ltb n 10000000 (omega (arith, leb-true n 512 (b .0)))) (lines-short n ls (both (eqb due 0) (counted n ls) e .1) (b .1) r)
+    rw (lt-ltb n (10 ^ mostDigits) (omega (arith, leb-true n 512 (b .0)))) (lines-short n ls (both (eqb due 0) (counted n ls) e .1) (b .1) r)
 lines-short zero (Rectangle q ∷ ls) e s r = clash e refl
 lines-short (suc due) (Rectangle q ∷ ls) e s r =
     let b = both (inRange q) (ranged ls) r in

@@ -16,8 +16,8 @@ use Rattle.geometry.specs.Rectangles.{inRange}
 use Rattle.plan.specs.declared.Shape.{Shape}
 use Rattle.plan.specs.Plan.{rectAt, count, sizeFits, sizesFit, allRanged, planCause, Sound}
 use Rattle.plan.proofs.Plan.{Checked, ranged-all}
-use Rattle.text.specs.declared.Line.{Line}
-use Rattle.text.specs.declared.Line.the-variants.{Plan, Layer, Rectangle}
+use Rattle.line.specs.declared.Line.{Line}
+use Rattle.line.specs.declared.Line.the-variants.{Plan, Layer, Rectangle}
 use Rattle.text.specs.Plans.{sizesIn, cellsIn, shapeIn, counted}
 
 -- each size is at most 512

@@ -1,6 +1,6 @@
 -- The length of the text of a sound plan, and its RECT lines taken together.
 use mathlib.Core.Path.{_≡_, refl, sym, ap, _∙_}
-use mathlib.Core.List.{List, [], _∷_, _++_, append-assoc}
+use mathlib.Core.List.{List, [], _∷_, _++_}
 use mathlib.Core.Bool.{true}
 use Prim.Native.Nat.{ℕ, zero, suc, _+_, _*_, _≤_, _<_}
 use native.Mathlib.Omega.{arith}
@@ -12,23 +12,17 @@ use Rattle.geometry.specs.Rectangles.{inRange}
 use Rattle.plan.specs.declared.Shape.{Shape}
 use Rattle.plan.specs.Plan.{rectAt, count, sizesOf, Sound}
 use Rattle.plan.proofs.Plan.{checked, front-sum, few}
-use Rattle.decimal.specs.Numerals.{size}
-use Rattle.text.specs.declared.Line.{Line}
-use Rattle.text.specs.declared.Line.the-variants.{Plan, Layer, Rectangle}
-use Rattle.text.specs.Lines.{spellTo, spell, allShort}
+use Rattle.line.specs.declared.Line.{Line}
+use Rattle.line.specs.declared.Line.the-variants.{Plan, Layer, Rectangle}
+use Rattle.line.specs.Lines.{spellTo}
+use Rattle.text.specs.Spelling.{spell, allShort}
 use Rattle.text.specs.Plans.{rectLines, layerLines, planLines, textOf}
 use Rattle.text.specs.Lengths.{layersLength}
-use Rattle.text.proofs.Places.{spell-front}
 use Rattle.text.proofs.Sound.{next-rect}
+use Rattle.text.proofs.Spelling.{spell-++}
 use Rattle.text.proofs.Sizes.{rect-short}
-use Rattle.text.proofs.Lengths.{spell-length, plan-length, layers-few, rects-few}
-
-pub spell-++ : (ls ms : List Line) → spell (ls ++ ms) ≡ spell ls ++ spell ms
-spell-++ [] ms = refl
-spell-++ (l ∷ ls) ms =
-    ap (spellTo l) (spell-++ ls ms)
-    ∙ (spell-front l (spell ls ++ spell ms)
-    ∙ (sym (append-assoc (spellTo l []) (spell ls) (spell ms)) ∙ ap (λ (r : List ℕ). r ++ spell ms) (sym (spell-front l (spell ls)))))
+use Rattle.line.proofs.Lengths.{spell-length}
+use Rattle.text.proofs.Lengths.{layers-few, rects-few}
 
 rects-++ : (n : ℕ) (front back : List ℤ) → length front ≡ 4 * n → rectLines (front ++ back) ≡ rectLines front ++ rectLines back
 rects-++ zero [] back e = refl
@@ -76,7 +70,7 @@ pub record Measured (s : Shape) (cells : List ℤ) : Type 0 where
   pub short : allShort (rectLines cells) ≡ true
   pub layers : layersLength (sizesOf s) ≤ 162
   pub rects : length (spell (rectLines cells)) ≤ 285696
-  pub text : length (textOf s cells) ≡ 6 + size 19 (s .k) + layersLength (sizesOf s) + length (spell (rectLines cells))
+  pub text : length (textOf s cells) ≡ length (spellTo (Plan (pos (s .k))) []) + layersLength (sizesOf s) + length (spell (rectLines cells))
 
 pub measured : (s : Shape) (cells : List ℤ) → Sound s cells → Measured s cells
 unfolding textOf planLines
@@ -90,5 +84,5 @@ measured s cells h =
       short = rects-short (count cells) cells w (c .ranged);
       layers = omega (arith, layers-few (sizesOf s), length-take-le (s .k) (s .sizes) (omega (arith, c .high, h .six)), c .high);
       rects = omega (arith, rects-few (count cells) cells w);
-      text = omega (arith, spell-length (Plan (pos (s .k))) (spell (layerLines (sizesOf s) cells)), plan-length (s .k), layers-length (sizesOf s) cells (omega (arith, c .whole, front-sum s cells c)));
+      text = omega (arith, spell-length (Plan (pos (s .k))) (spell (layerLines (sizesOf s) cells)), layers-length (sizesOf s) cells (omega (arith, c .whole, front-sum s cells c)));
     }

@@ -17,9 +17,9 @@ use Rattle.plan.specs.declared.Shape.{Shape}
 use Rattle.plan.specs.Causes.{unless, _orElse_}
 use Rattle.plan.specs.Plan.{planCause, Sound}
 use Rattle.plan.proofs.Plan.{checked, unless-zero, plan-most, check-failed, check-others}
-use Rattle.text.specs.declared.Line.{Line}
-use Rattle.text.specs.declared.Line.the-variants.{Plan, Layer, Rectangle}
-use Rattle.text.specs.Lines.{spell}
+use Rattle.line.specs.declared.Line.{Line}
+use Rattle.line.specs.declared.Line.the-variants.{Plan, Layer, Rectangle}
+use Rattle.text.specs.Spelling.{spell}
 use Rattle.text.specs.Parsing.{linesOf, isSome, wellFormed}
 use Rattle.text.specs.Plans.{layerLines, planLines, textOf, sizesIn, cellsIn, shapeIn, counted, wellCounted, agrees}
 use Rattle.text.specs.Reader.{linesCause, readCause, textShape, textCells}

@@ -12,10 +12,10 @@ use Rattle.lists.proofs.Tests.{clash, both, same-test}
 use Rattle.plan.specs.Plan.{planCause}
 use Rattle.plan.specs.Causes.{unless}
 use Rattle.plan.proofs.Plan.{checked}
-use Rattle.text.specs.declared.Line.{Line}
-use Rattle.text.specs.declared.Line.the-variants.{Plan, Layer, Rectangle}
+use Rattle.line.specs.declared.Line.{Line}
+use Rattle.line.specs.declared.Line.the-variants.{Plan, Layer, Rectangle}
 use Rattle.text.specs.declared.Tally.{Tally}
-use Rattle.text.specs.Lines.{allInner}
+use Rattle.text.specs.Spelling.{allInner}
 use Rattle.text.specs.Plans.{sizesIn, cellsIn, shapeIn, counted, agrees}
 use Rattle.text.specs.Counting.{noneYet, addLayer, addRect, addLines, layersRight, tallyCause}
 use Rattle.text.proofs.Counting.{layer-formed, rect-formed}

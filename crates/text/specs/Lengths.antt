@@ -3,8 +3,8 @@ use mathlib.Core.List.{List, [], _∷_}
 use Prim.Native.Nat.{ℕ, _+_}
 use lib.IntN.{pos}
 use lib.ListN.{length}
-use Rattle.text.specs.declared.Line.the-variants.{Layer}
-use Rattle.text.specs.Lines.{spellTo}
+use Rattle.line.specs.declared.Line.the-variants.{Layer}
+use Rattle.line.specs.Lines.{spellTo}
 
 -- the length of the LAYER lines of these sizes
 abbrev pub layersLength : List ℕ → ℕ

@@ -1,10 +1,9 @@
-pub mod Lines
+pub mod Spelling
 pub mod Parsing
 pub mod Plans
 pub mod Reader
 pub mod Writer
 pub mod Theorems
-pub mod Places
 pub mod Counting
 pub mod Filling
 pub mod Lengths

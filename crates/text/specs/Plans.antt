@@ -8,9 +8,9 @@ use lib.ListN.{length, take, drop}
 use Rattle.lists.specs.Lists.{padded}
 use Rattle.plan.specs.declared.Shape.{Shape}
 use Rattle.plan.specs.Plan.{sizesOf, planCause}
-use Rattle.text.specs.declared.Line.{Line}
-use Rattle.text.specs.Lines.{spell}
-use Rattle.text.specs.declared.Line.the-variants.{Plan, Layer, Rectangle}
+use Rattle.line.specs.declared.Line.{Line}
+use Rattle.text.specs.Spelling.{spell}
+use Rattle.line.specs.declared.Line.the-variants.{Plan, Layer, Rectangle}
 
 -- ---- from a plan to its text
 

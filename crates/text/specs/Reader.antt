@@ -1,14 +1,14 @@
 -- What the reader answers (01, "Causes and their numbers", 9 to 11).
 use mathlib.Core.List.{List, [], _∷_, _++_}
 use mathlib.Core.Option.{Option, none, some}
-use Prim.Native.Nat.{ℕ, zero, suc}
+use Prim.Native.Nat.{ℕ}
 use lib.Dec.{leb}
 use lib.IntN.{ℤ}
 use lib.ListN.{length, drop}
 use Rattle.plan.specs.declared.Shape.{Shape}
 use Rattle.plan.specs.Causes.{unless, _orElse_, onCause}
 use Rattle.text.specs.declared.Reading.{Reading}
-use Rattle.text.specs.declared.Line.{Line}
+use Rattle.line.specs.declared.Line.{Line}
 use Rattle.text.specs.Parsing.{linesOf}
 use Rattle.text.specs.Plans.{shapeIn, cellsIn, agrees}
 

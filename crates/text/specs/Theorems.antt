@@ -9,8 +9,8 @@ use lib.ListN.{length, take, drop}
 use Rattle.lists.specs.Lists.{sum}
 use Rattle.plan.specs.declared.Shape.{Shape}
 use Rattle.plan.specs.Plan.{planCause, Sound}
-use Rattle.text.specs.declared.Line.{Line}
-use Rattle.text.specs.Lines.{spell, headed, allShort}
+use Rattle.line.specs.declared.Line.{Line}
+use Rattle.text.specs.Spelling.{spell, headed, allShort}
 use Rattle.text.specs.Parsing.{wellFormed}
 use Rattle.text.specs.declared.Writing.the-variants.{Written}
 use Rattle.text.specs.Plans.{textOf}

@@ -1,6 +1,6 @@
 -- What the writer answers (01, "Causes and their numbers", 1 to 4 and 12).
 use mathlib.Core.List.{List, _++_}
-use Prim.Native.Nat.{ℕ, zero, suc}
+use Prim.Native.Nat.{ℕ}
 use lib.Dec.{leb}
 use lib.IntN.{ℤ}
 use lib.ListN.{length, drop}

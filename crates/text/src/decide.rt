@@ -1,18 +1,18 @@
 // The reader's first pass: the causes 9, 10 and 11.
 use crate::Decision;
-use crate::Found;
-use crate::Line;
 use crate::Reading;
 use crate::Tally;
-use crate::parse::read_line;
 use geometry::Rect;
 use geometry::in_range;
+use line::Found;
+use line::Line;
+use line::read_line;
 use plan::Shape;
 ghost use mathlib.Core.Path.{_≡_};
 ghost use Prim.Native.Nat.{_≤_};
 ghost use lib.ListN.{length, drop};
-ghost use Rattle.text.specs.declared.Line.the-variants.{Plan};
-ghost use Rattle.text.specs.Places.{Line-at};
+ghost use Rattle.line.specs.declared.Line.the-variants.{Plan};
+ghost use Rattle.line.specs.Places.{Line-at};
 ghost use Rattle.text.specs.Filling.{refused, Decided};
 ghost use Rattle.text.specs.Counting.{noneYet, unformed, spoilt, layerRight, addLayer, addRect, addLine, tallyFrom, Few, layersRight, tallyCause};
 

@@ -1,13 +1,13 @@
 // The reader's second pass: the cells of an accepted text.
-use crate::Found;
-use crate::Line;
-use crate::parse::read_line;
 use geometry::Rect;
+use line::Found;
+use line::Line;
+use line::read_line;
 ghost use mathlib.Core.List.{[], _∷_};
 ghost use Prim.Native.Nat.{_+_, _≤_};
 ghost use lib.ListN.{length, drop};
 ghost use Rattle.decimal.specs.Stores.{Put};
-ghost use Rattle.text.specs.declared.Line.the-variants.{Rectangle};
+ghost use Rattle.line.specs.declared.Line.the-variants.{Rectangle};
 ghost use Rattle.text.specs.Plans.{cellsIn};
 ghost use Rattle.text.specs.Filling.{restCells, Room};
 

@@ -4,12 +4,10 @@
 mod decide;
 mod fill;
 mod measure;
-mod parse;
 mod put;
 
 use decide::decide;
 use fill::fill;
-use geometry::Rect;
 use measure::text_size;
 use plan::Shape;
 use plan::plan_cause;
@@ -18,19 +16,6 @@ ghost use mathlib.Core.Path.{_≡_};
 ghost use lib.ListN.{length};
 ghost use Rattle.text.specs.Reader.{readCause, readAnswer, cellsAfter};
 ghost use Rattle.text.specs.Writer.{writeCause, writeAnswer, writeLength, numberOf, lengthOf, bufferAfter};
-
-// A line of the text: PLAN and k, LAYER and a size, or RECT and a rectangle.
-pub enum Line {
-    Plan(i32),
-    Layer(i32),
-    Rectangle(Rect),
-}
-
-// What reading a line gives: the line and the place behind it.
-pub enum Found {
-    At(Line, usize),
-    Nothing,
-}
 
 // What the first pass has found: well formed and nothing wrong so far, RECT lines due, layers, rectangles in all, sizes.
 pub struct Tally {

@@ -1,27 +1,17 @@
 // How many bytes a text takes, before it is written.
-use decimal::numeral_size;
-use decimal::size_of;
-use geometry::Rect;
+use line::layer_line_size;
+use line::plan_line_size;
+use line::rect_line_size;
 use plan::Shape;
 use plan::rect_at;
 ghost use mathlib.Core.Path.{_≡_};
 ghost use mathlib.Core.Bool.{true};
-ghost use mathlib.Core.List.{[]};
 ghost use Prim.Native.Nat.{_*_, _≤_};
 ghost use lib.ListN.{length, take};
 ghost use Rattle.plan.specs.Plan.{Sound};
-ghost use Rattle.text.specs.declared.Line.the-variants.{Rectangle};
-ghost use Rattle.text.specs.Lines.{spellTo, spell, shortRect, allShort};
+ghost use Rattle.text.specs.Spelling.{spell, allShort};
 ghost use Rattle.text.specs.Plans.{rectLines, textOf};
 ghost use Rattle.text.specs.Lengths.{layersLength};
-
-// The length of a RECT line.
-fn rect_size(r: Rect) -> usize
-    requires { ⌜ shortRect r ≡ true ⌝ }
-    ensures { λ v. ⌜ v ≡ length (spellTo (Rectangle r) []) ⌝ }
-{
-    9 + numeral_size(r.left) + numeral_size(r.bottom) + numeral_size(r.right) + numeral_size(r.top)
-}
 
 // The length of the RECT lines of n rectangles.
 fn rects_size(cells: &[i32], n: usize) -> usize
@@ -31,7 +21,7 @@ fn rects_size(cells: &[i32], n: usize) -> usize
     let mut size: usize = 0;
     let mut p: usize = 0;
     while p < n {
-        size += rect_size(rect_at(cells, p));
+        size += rect_line_size(rect_at(cells, p));
         p += 1;
     }
     size
@@ -45,7 +35,7 @@ fn layers_size(sizes: &[u32], k: usize) -> usize
     let mut size: usize = 0;
     let mut j: usize = 0;
     while j < k {
-        size += 7 + size_of(sizes[j] as u64);
+        size += layer_line_size(sizes[j]);
         j += 1;
     }
     size
@@ -57,8 +47,5 @@ pub fn text_size(shape: Shape, cells: &[i32]) -> usize
     ensures { λ v. ⌜ v ≡ length (textOf shape (now (cells .entry))) ⌝ }
 {
     let k = shape.k;
-    6
-        + size_of(k as u64)
-        + layers_size(&shape.sizes, k as usize)
-        + rects_size(cells, cells.len() / 4)
+    plan_line_size(k) + layers_size(&shape.sizes, k as usize) + rects_size(cells, cells.len() / 4)
 }

@@ -1,57 +1,22 @@
-// Lines, put into a buffer at a place.
-use decimal::put_decimal;
-use decimal::put_number;
-use decimal::put_word;
-use geometry::Rect;
+// The text of a plan, put into a buffer.
+use line::put_layer_line;
+use line::put_plan_line;
+use line::put_rect_line;
 use plan::Shape;
 use plan::layer_cells;
 use plan::rect_at;
 ghost use mathlib.Core.Path.{_≡_};
 ghost use mathlib.Core.Bool.{true};
-ghost use mathlib.Core.List.{[], _∷_, _++_};
+ghost use mathlib.Core.List.{_∷_};
 ghost use Prim.Native.Nat.{_+_, _*_, _≤_};
 ghost use lib.IntN.{pos};
 ghost use lib.ListN.{length, take};
 ghost use Rattle.lists.specs.Lists.{sum};
 ghost use Rattle.plan.specs.Plan.{Sound};
-ghost use Rattle.decimal.specs.Numerals.{short};
 ghost use Rattle.decimal.specs.Stores.{Put};
-ghost use Rattle.text.specs.declared.Line.the-variants.{Layer, Rectangle};
-ghost use Rattle.text.specs.Lines.{put, spellTo, spell, shortRect, allShort};
+ghost use Rattle.line.specs.declared.Line.the-variants.{Layer};
+ghost use Rattle.text.specs.Spelling.{spell, allShort};
 ghost use Rattle.text.specs.Plans.{rectLines, layerLines, textOf};
-
-// A line of a word and a number; the place behind it.
-fn put_count(buf: &mut [u8], at: usize, word: &[u8], n: u32) -> usize
-    requires { ⌜ at + length (now word ++ put (pos n) 10 []) ≤ length (now buf) ⌝ }
-    ensures { λ r. ⌜ Put (now (buf .entry)) at (now (word .entry) ++ put (pos n) 10 []) (now (buf .exit)) r ⌝ }
-{
-    let a = put_word(buf, at, word);
-    let b = put_decimal(buf, a, n as u64);
-    buf[b] = b'\n';
-    b + 1
-}
-
-// A number and the byte that ends its field; the place behind it.
-fn put_field(buf: &mut [u8], at: usize, z: i32, e: u8) -> usize
-    requires { ⌜ (short z ≡ true) × (at + length (put z e []) ≤ length (now buf)) ⌝ }
-    ensures { λ r. ⌜ Put (now (buf .entry)) at (put z e []) (now (buf .exit)) r ⌝ }
-{
-    let next = put_number(buf, at, z);
-    buf[next] = e;
-    next + 1
-}
-
-// A RECT line; the place behind it.
-fn put_rect(buf: &mut [u8], at: usize, r: Rect) -> usize
-    requires { ⌜ (shortRect r ≡ true) × (at + length (spellTo (Rectangle r) []) ≤ length (now buf)) ⌝ }
-    ensures { λ q. ⌜ Put (now (buf .entry)) at (spellTo (Rectangle r) []) (now (buf .exit)) q ⌝ }
-{
-    let a = put_word(buf, at, b"RECT\t");
-    let b = put_field(buf, a, r.left, b'\t');
-    let c = put_field(buf, b, r.bottom, b'\t');
-    let d = put_field(buf, c, r.right, b'\t');
-    put_field(buf, d, r.top, b'\n')
-}
 
 // The RECT lines of n rectangles; the place behind them.
 fn put_rects(buf: &mut [u8], from: usize, cells: &[i32], n: usize) -> usize
@@ -62,7 +27,7 @@ fn put_rects(buf: &mut [u8], from: usize, cells: &[i32], n: usize) -> usize
     let mut at = from;
     let mut p: usize = 0;
     while p < n {
-        at = put_rect(buf, at, rect_at(cells, p));
+        at = put_rect_line(buf, at, rect_at(cells, p));
         p += 1;
     }
     at
@@ -74,7 +39,7 @@ fn put_layer(buf: &mut [u8], at: usize, n: u32, cells: &[i32]) -> usize
     requires { ⌜ at + length (spell (Layer (pos n) ∷ rectLines (now cells))) ≤ length (now buf) ⌝ }
     ensures { λ r. ⌜ Put (now (buf .entry)) at (spell (Layer (pos n) ∷ rectLines (now (cells .entry)))) (now (buf .exit)) r ⌝ }
 {
-    let a = put_count(buf, at, b"LAYER\t", n);
+    let a = put_layer_line(buf, at, n);
     put_rects(buf, a, cells, n as usize)
 }
 
@@ -104,6 +69,6 @@ pub fn put_plan(buf: &mut [u8], shape: Shape, cells: &[i32]) -> usize
     ensures { λ r. ⌜ Put (now (buf .entry)) 0 (textOf shape (now (cells .entry))) (now (buf .exit)) r ⌝ }
 {
     let k = shape.k;
-    let at = put_count(buf, 0, b"PLAN\t", k);
+    let at = put_plan_line(buf, 0, k);
     put_layers(buf, at, &shape.sizes, k as usize, cells)
 }

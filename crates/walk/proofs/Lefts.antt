@@ -13,9 +13,8 @@ use Rattle.lists.proofs.Tests.{clash, both, and-true, same-test}
 use Rattle.geometry.specs.declared.Rect.{Rect}
 use Rattle.geometry.proofs.Integers.{zarith, refl-le}
 use Rattle.join.specs.Join.{cut, sameZ, firstAt, guardLayer}
-use Rattle.join.proofs.Join.{cut-above, same-true, same-yes}
+use Rattle.join.proofs.Join.{cut-above, same-true, same-yes, cut-least}
 use Rattle.walk.specs.Walk.{insertAt}
-use Rattle.join.proofs.Join.{cut-least}
 use Rattle.walk.proofs.Inserted.{common-insert}
 
 -- the first i lefts are below x, the later ones at most x

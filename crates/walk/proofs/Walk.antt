@@ -10,24 +10,21 @@ use lib.ListN.{length, getD}
 use borrow.Author.Tests.{eq-eqb, eqb-true}
 use Rattle.lists.specs.Lists.{All, none-left, _and_, rowsBelow, keep, without}
 use Rattle.lists.proofs.Lists.{all-any, all-map, all-++, all-of-map}
-use Rattle.lists.proofs.Kept.{all-keep, keep-same, map-++, map-map}
+use Rattle.lists.proofs.Kept.{all-keep, keep-same, map-++, map-map, length-without}
 use Rattle.geometry.specs.declared.Rect.{Rect}
 use Rattle.geometry.specs.Rectangles.{nonempty, areaOf}
 use Rattle.plan.specs.Plan.{Layer}
-use Rattle.plan.specs.Sweep.{Spot, Has, rectOf}
+use Rattle.plan.specs.Spots.{Spot, Has, rectOf}
 use Rattle.join.specs.Join.{Within, rects, cut, commonOf, areaIn, guardLayer, guardOf}
 use Rattle.join.specs.Table.{same-spot, belongs, sizesIn, block, table}
-use Rattle.join.proofs.Table.{rows-within, belongs-is}
+use Rattle.join.proofs.Table.{rows-within, belongs-is, size-at, sizes-without, within-long}
 use Rattle.search.specs.Traversal.{Slot, Row, run, probes, traversal, rowAt, rowOf}
 use Rattle.search.specs.Paging.{rowsOf}
 use Rattle.search.proofs.Paging.{rowsOf-++, yields-kept}
-use Rattle.search.proofs.Traversal.{combinations-run}
+use Rattle.search.proofs.Traversal.{combinations-run, rows-slots}
 use Rattle.walk.specs.Walk.{guardAt, insertAt}
 use Rattle.lists.proofs.Tests.{and-first, and-second}
-use Rattle.lists.proofs.Kept.{length-without}
 use Rattle.plan.proofs.Spots.{has-layer}
-use Rattle.join.proofs.Table.{size-at, sizes-without, within-long}
-use Rattle.search.proofs.Traversal.{rows-slots}
 use Rattle.walk.proofs.Inserted.{getD-insert, rows-at, rects-insert, common-insert}
 use Rattle.walk.proofs.Lefts.{lefts, guard-lefts}
 use Rattle.walk.proofs.Slots.{slots-long, slot-sizes, ran}

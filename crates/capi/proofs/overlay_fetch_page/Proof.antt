@@ -1,9 +1,9 @@
 -- `capi::overlay_fetch_page`: the page from the cursor in the cells, laid out.
 use borrow.Author.Needs.{needs}
-use mathlib.Core.Path.{_≡_, ap, _∙_}
+use mathlib.Core.Path.{ap, _∙_}
 use Rattle.paging.specs.declared.Cursor.{Cursor}
 use Rattle.paging.specs.Calls.{pageCause, pageCall, pageTable}
-use Rattle.capi.specs.Cells.{shapeOf, pageCells, cursorAfter}
+use Rattle.cells.specs.Cells.{shapeOf, pageCells, cursorAfter}
 use Rattle.capi.proofs.overlay_fetch_page.Statement.{statement}
 use Rattle.capi.proofs.overlay_fetch_page.Tie as tie
 

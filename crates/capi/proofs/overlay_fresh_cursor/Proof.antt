@@ -2,7 +2,7 @@
 use borrow.Author.Needs.{needs}
 use mathlib.Core.Path.{ap, _∙_}
 use Rattle.paging.specs.declared.Fresh.{Fresh}
-use Rattle.capi.specs.Cells.{cursorCells}
+use Rattle.cells.specs.Cells.{cursorCells}
 use Rattle.capi.proofs.overlay_fresh_cursor.Statement.{statement}
 use Rattle.capi.proofs.overlay_fresh_cursor.Tie as tie
 

@@ -1,8 +1,8 @@
 -- `capi::overlay_row`: number and cells are those of the values.
 use borrow.Author.Needs.{needs}
 use mathlib.Core.Path.{ap, _∙_}
-use Rattle.join.specs.RowCall.{RowValues}
-use Rattle.capi.specs.Cells.{rowCells}
+use Rattle.rows.specs.RowCall.{RowValues}
+use Rattle.cells.specs.Cells.{rowCells}
 use Rattle.capi.proofs.overlay_row.Statement.{statement}
 use Rattle.capi.proofs.overlay_row.Tie as tie
 

@@ -2,7 +2,7 @@
 use borrow.Author.Needs.{needs}
 use mathlib.Core.Path.{ap, _∙_}
 use Rattle.paging.specs.Calls.{RunValues}
-use Rattle.capi.specs.Cells.{runCells}
+use Rattle.cells.specs.Cells.{runCells}
 use Rattle.capi.proofs.overlay_run_all.Statement.{statement}
 use Rattle.capi.proofs.overlay_run_all.Tie as tie
 

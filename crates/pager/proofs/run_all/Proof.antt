@@ -4,7 +4,7 @@ use mathlib.Core.Path.{_≡_, refl, sym, _∙_}
 use lib.ListN.{length}
 use native.Mathlib.Omega.{arith}
 use Rattle.lists.proofs.Tests.{clash}
-use Rattle.walker.proofs.Frames.{more}
+use Rattle.slots.proofs.Frames.{more}
 use Rattle.pager.proofs.Answering.{Opened, opened, room-fits}
 use Rattle.pager.proofs.Running.{run-refused, counted-misfit, counted-made}
 use Rattle.pager.proofs.run_all.Statement.{statement}

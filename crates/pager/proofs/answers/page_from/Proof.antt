@@ -1,7 +1,7 @@
 -- `pager::answers::page_from`: the page loop, told as a page.
 use borrow.Author.Needs.{needs}
 use native.Mathlib.Omega.{arith}
-use Rattle.walker.proofs.Frames.{more}
+use Rattle.slots.proofs.Frames.{more}
 use Rattle.pager.proofs.Answering.{room-fits, rows-few, done-few, page-answered}
 use Rattle.pager.proofs.answers.page_from.Statement.{statement}
 use Rattle.pager.proofs.answers.page_from.Tie as tie

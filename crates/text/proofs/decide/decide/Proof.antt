@@ -5,9 +5,9 @@ use mir.Syntax.{w32}
 use mir.Val.{SFits}
 use mir.Facts.{toZ-ofZ}
 use denote.Ref.{now}
-use Rattle.text.specs.Lines.{inner}
-use Rattle.text.specs.Places.{Line-at}
-use Rattle.text.proofs.Places.{line-on, line-bad}
+use Rattle.text.specs.Spelling.{inner}
+use Rattle.line.specs.Places.{Line-at}
+use Rattle.line.proofs.Places.{line-on, line-bad}
 use Rattle.text.proofs.Filling.{formCause, refused-form, lines-none, lines-other}
 use borrow.Author.Needs.{needs}
 use Rattle.text.proofs.decide.decide.Statement.{statement}

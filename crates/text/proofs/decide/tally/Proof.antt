@@ -6,8 +6,8 @@ use lib.ListN.{length}
 use denote.Ref.{now}
 use borrow.Author.Needs.{needs}
 use borrow.Author.Tests.{not-true, not-false}
-use Rattle.text.specs.Places.{Line-at}
-use Rattle.text.proofs.Places.{line-on, line-bad}
+use Rattle.line.specs.Places.{Line-at}
+use Rattle.line.proofs.Places.{line-on, line-bad}
 use Rattle.text.proofs.Counting.{Counting, counting-start, counting-none, counting-end, counting-stop, counting-more}
 use Rattle.text.proofs.decide.tally.Statement.{statement}
 use Rattle.text.proofs.decide.tally.Tie as tie

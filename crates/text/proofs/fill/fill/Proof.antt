@@ -5,8 +5,8 @@ use native.Mathlib.Omega.{arith}
 use lib.ListN.{length}
 use denote.Ref.{now}
 use borrow.Author.Needs.{needs}
-use Rattle.text.specs.Places.{Line-at}
-use Rattle.text.proofs.Places.{line-on, line-bad}
+use Rattle.line.specs.Places.{Line-at}
+use Rattle.line.proofs.Places.{line-on, line-bad}
 use Rattle.text.proofs.Cells.{Filling, filling-start, filling-bad, filling-end, filling-room, filling-more}
 use Rattle.text.proofs.fill.fill.Statement.{statement}
 use Rattle.text.proofs.fill.fill.Tie as tie

@@ -3,7 +3,7 @@ use mathlib.Core.Path.{refl, ap}
 use mathlib.Core.List.{[], _∷_}
 use native.Mathlib.Omega.{arith}
 use lib.ListN.{length}
-use Rattle.text.specs.declared.Line.{Line}
+use Rattle.line.specs.declared.Line.{Line}
 use Rattle.text.specs.Plans.{cellsIn}
 use borrow.Author.Needs.{needs}
 use Rattle.text.proofs.fill.put_line.Statement.{statement}

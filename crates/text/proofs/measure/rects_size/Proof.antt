@@ -7,8 +7,8 @@ use lib.ListN.{length}
 use denote.Ref.{now}
 use Rattle.geometry.specs.declared.Rect.{Rect}
 use Rattle.plan.specs.Plan.{rectAt}
-use Rattle.text.specs.declared.Line.the-variants.{Rectangle}
-use Rattle.text.specs.Lines.{spellTo}
+use Rattle.line.specs.declared.Line.the-variants.{Rectangle}
+use Rattle.line.specs.Lines.{spellTo}
 use Rattle.text.proofs.Lengths.{Measuring, measuring-start, measuring-short, measuring-few, measuring-more, measuring-end}
 use Rattle.text.proofs.measure.rects_size.Statement.{statement}
 use Rattle.text.proofs.measure.rects_size.Tie as tie
@@ -20,8 +20,8 @@ abbrev μ-loop : tie.MeasureT-loop
 μ-loop cells n size₀ p₀ size p = n - p
 
 -- the length of the line
-line : (c : tie.After-rect-size Inv-loop μ-loop) → c .rect-size .result ≡ length (spellTo (Rectangle (rectAt (now (c .before .before .before .before .args .cells)) (c .before .before .before .loop .p))) [])
-line c = c .rect-size .ensures ∙ ap (λ (r : Rect). length (spellTo (Rectangle r) [])) (c .before .rect-at .ensures)
+line : (c : tie.After-rect-line-size Inv-loop μ-loop) → c .rect-line-size .result ≡ length (spellTo (Rectangle (rectAt (now (c .before .before .before .before .args .cells)) (c .before .before .before .loop .p))) [])
+line c = c .rect-line-size .ensures ∙ ap (λ (r : Rect). length (spellTo (Rectangle r) [])) (c .before .rect-at .ensures)
 
 loop-holds : tie.Need-loop-holds Inv-loop μ-loop
 loop-holds c = (omega arith, measuring-start _ (c .pre .2))
@@ -29,8 +29,8 @@ loop-holds c = (omega arith, measuring-start _ (c .pre .2))
 rect-at-requires : tie.Need-rect-at-requires Inv-loop μ-loop
 rect-at-requires c κs = omega (arith, c .before .before .pre .0)
 
-rect-size-requires : tie.Need-rect-size-requires Inv-loop μ-loop
-rect-size-requires c κs =
+rect-line-size-requires : tie.Need-rect-line-size-requires Inv-loop μ-loop
+rect-line-size-requires c κs =
     let l = c .before .before .loop in
     rw (c .rect-at .ensures) (measuring-short _ _ _ (l .p) (c .before .before .before .pre .0) (l .inv .1) (c .before .loop-test .taken))
 
@@ -61,7 +61,7 @@ rects-size-spec =
     μ-loop
     loop-holds
     rect-at-requires
-    rect-size-requires
+    rect-line-size-requires
     add-size
     add-p
     loop-less

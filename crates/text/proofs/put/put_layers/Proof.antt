@@ -5,6 +5,7 @@ use native.Mathlib.Omega.{arith}
 use lib.ListN.{length, getD, take}
 use lib.Seq.{getD-take, length-take-le}
 use denote.Ref.{now}
+use borrow.Author.Needs.{needs}
 use Rattle.text.proofs.Layers.{Layers, layers-start, layers-end, layers-inside, layers-fit, layers-more}
 use Rattle.text.proofs.put.put_layers.Statement.{statement}
 use Rattle.text.proofs.put.put_layers.Tie as tie
@@ -30,30 +31,38 @@ loop-holds : tie.Need-loop-holds Inv-loop μ-loop
 loop-holds c = layers-start _ _ _ _ (c .before .before .pre .0 .2) (c .before .before .pre .1 .0)
 
 mul-n : tie.Need-mul-n Inv-loop μ-loop
-mul-n c = omega (arith, c .before .before .before .before .pre .0 .1)
+mul-n c =
+    let s : tie.Start Inv-loop μ-loop = search needs in
+    omega (arith, s .pre .0 .1)
 
 shared-slice-read-n : tie.Need-shared-slice-read-n Inv-loop μ-loop
-shared-slice-read-n c = omega (arith, c .before .before .before .before .before .pre .0 .0)
+shared-slice-read-n c =
+    let s : tie.Start Inv-loop μ-loop = search needs in
+    omega (arith, s .pre .0 .0)
 
 cast-layer-cells : tie.Need-cast-layer-cells Inv-loop μ-loop
 cast-layer-cells c = omega (arith, c .before .shared-slice-known2 .given (c .before .before .before .loop .j))
 
 layer-cells-requires : tie.Need-layer-cells-requires Inv-loop μ-loop
-layer-cells-requires c κs = layers-inside _ _ _ _ _ _ _ (c .before .before .before .loop .j) (c .before .before .before .loop .inv) (inside (c .before .before)) _ (size (c .before .before))
+layer-cells-requires c κs =
+    let i : tie.In-loop Inv-loop μ-loop = search needs in
+    let l = i .before .loop in
+    layers-inside _ _ _ _ _ _ _ (l .j) (l .inv) (inside i) _ (size i)
 
 put-layer-requires : tie.Need-put-layer-requires Inv-loop μ-loop
 put-layer-requires c κs =
-    let l = c .before .before .before .before .loop in
-    let i = c .before .before .before in
-    layers-fit _ _ _ _ _ _ _ (l .j) (l .inv) (inside i) _ (size i) _ (c .layer-cells .ensures) (c .before .before .before .before .before .before .before .pre .1 .1)
+    let s : tie.Start Inv-loop μ-loop = search needs in
+    let i : tie.In-loop Inv-loop μ-loop = search needs in
+    let l = i .before .loop in
+    layers-fit _ _ _ _ _ _ _ (l .j) (l .inv) (inside i) _ (size i) _ (c .layer-cells .ensures) (s .pre .1 .1)
 
 cast-start : tie.Need-cast-start Inv-loop μ-loop
 cast-start c = omega (arith, c .before .before .before .before .before .shared-slice-known2 .given (c .before .before .before .before .before .before .before .loop .j))
 
 add-start : tie.Need-add-start Inv-loop μ-loop
 add-start c =
-    let l = c .before .before .before .before .before .before .before .loop in
-    let i = c .before .before .before .before .before .before in
+    let i : tie.In-loop Inv-loop μ-loop = search needs in
+    let l = i .before .loop in
     omega (arith, layers-inside _ _ _ _ _ _ _ (l .j) (l .inv) (inside i) _ (size i))
 
 add-j : tie.Need-add-j Inv-loop μ-loop
@@ -64,9 +73,11 @@ loop-less c = omega arith
 
 loop-again : tie.Need-loop-again Inv-loop μ-loop
 loop-again c =
-    let l = c .before .before .before .before .before .before .before .loop in
-    let i = c .before .before .before .before .before .before in
-    layers-more _ _ _ _ _ _ _ (l .j) (l .inv) (inside i) _ (size i) _ (c .before .before .before .layer-cells .ensures) _ _ (c .before .before .put-layer .ensures)
+    let i : tie.In-loop Inv-loop μ-loop = search needs in
+    let l = i .before .loop in
+    let m : tie.After-layer-cells Inv-loop μ-loop = search needs in
+    let p : tie.After-put-layer Inv-loop μ-loop = search needs in
+    layers-more _ _ _ _ _ _ _ (l .j) (l .inv) (inside i) _ (size i) _ (m .layer-cells .ensures) _ _ (p .put-layer .ensures)
 
 same-length : tie.Need-same-length Inv-loop μ-loop
 same-length c = c .before .loop .inv .left .long

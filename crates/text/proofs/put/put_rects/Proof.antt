@@ -1,7 +1,7 @@
 -- `put_rects` puts line after line. The loop's invariant: the lines from place p on are left to be put. The measure is the rectangles left.
 use Prim.Native.Nat.{_-_, _≤_}
 use native.Mathlib.Omega.{arith}
-use Rattle.text.proofs.Fields.{Rects, rects-start, rects-fit, rects-more, rects-end}
+use Rattle.text.proofs.Rects.{Rects, rects-start, rects-fit, rects-more, rects-end}
 use Rattle.text.proofs.put.put_rects.Statement.{statement}
 use Rattle.text.proofs.put.put_rects.Tie as tie
 
@@ -17,8 +17,8 @@ loop-holds c = (omega arith, rects-start _ _ _ (c .before .pre .0 .1))
 rect-at-requires : tie.Need-rect-at-requires Inv-loop μ-loop
 rect-at-requires c κs = omega (arith, c .before .before .before .before .pre .0 .0)
 
-put-rect-requires : tie.Need-put-rect-requires Inv-loop μ-loop
-put-rect-requires c κs =
+put-rect-line-requires : tie.Need-put-rect-line-requires Inv-loop μ-loop
+put-rect-line-requires c κs =
     let s = c .before .before .before .before .before in
     let l = c .before .before .before .loop in
     rw (c .rect-at .ensures) (rects-fit _ _ _ _ _ (l .p) _ (s .pre .0 .0) (c .before .before .loop-test .taken) (l .inv .1) (s .pre .1))
@@ -33,7 +33,7 @@ loop-again : tie.Need-loop-again Inv-loop μ-loop
 loop-again c =
     let s = c .before .before .before .before .before .before .before .before in
     let l = c .before .before .before .before .before .before .loop in
-    (omega arith, rects-more _ _ _ _ _ (l .p) _ (s .pre .0 .0) (c .before .before .before .before .before .loop-test .taken) (l .inv .1) _ _ (rw (c .before .before .before .rect-at .ensures) at (c .before .before .put-rect .ensures)))
+    (omega arith, rects-more _ _ _ _ _ (l .p) _ (s .pre .0 .0) (c .before .before .before .before .before .loop-test .taken) (l .inv .1) _ _ (rw (c .before .before .before .rect-at .ensures) at (c .before .before .put-rect-line .ensures)))
 
 same-length : tie.Need-same-length Inv-loop μ-loop
 same-length c = c .before .loop .inv .1 .left .long
@@ -49,7 +49,7 @@ put-rects-spec =
     μ-loop
     loop-holds
     rect-at-requires
-    put-rect-requires
+    put-rect-line-requires
     add-p
     loop-less
     loop-again

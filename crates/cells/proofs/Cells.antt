@@ -1,0 +1,42 @@
+-- What the readers and writers of cells need.
+use mathlib.Core.Path.{_≡_, refl, sym, ap, _∙_}
+use mathlib.Core.List.{List, [], _∷_}
+use mathlib.Core.Bool.{Bool, true, false, cond}
+use Prim.Native.Nat.{ℕ, zero, suc, _≤_, _<_}
+use lib.ListN.{getD}
+use mir.Val.{boolByte}
+use borrow.Author.Tests.{le-leb, lt-leb}
+use Rattle.plan.specs.Causes.{onCause}
+use Rattle.paging.specs.declared.Cursor.{Cursor}
+use Rattle.paging.specs.declared.Page.{Page}
+use Rattle.paging.specs.Calls.{stopNumber}
+use Rattle.cells.specs.Cells.{cursorCells, noCursor, plainCursor, cursorIn, cursorAfter}
+
+-- a flag as a number
+as-number : (t : Bool) → boolByte t ≡ cond t 1 0
+as-number true = refl
+as-number false = refl
+
+-- a cursor's cells as they are made
+pub made : (c : Cursor) → boolByte (c .ended) ∷ c .layer ∷ c .place ∷ c .filled ∷ getD (c .chosen) 0 0 ∷ getD (c .chosen) 1 0 ∷ getD (c .chosen) 2 0 ∷ getD (c .chosen) 3 0 ∷ getD (c .chosen) 4 0 ∷ c .next ∷ [] ≡ cursorCells c
+made c = rw (as-number (c .ended)) refl
+
+-- cells whose first is above 1 are no cursor
+pub in-none : (l : List ℕ) → 1 < getD l 0 0 → noCursor ≡ cursorIn l
+in-none l high = sym (ap (λ (t : Bool). cond t (plainCursor l) noCursor) (lt-leb (getD l 0 0) 1 high))
+
+-- all others are one
+pub in-some : (l : List ℕ) → getD l 0 0 ≤ 1 → plainCursor l ≡ cursorIn l
+in-some l low = sym (ap (λ (t : Bool). cond t (plainCursor l) noCursor) (le-leb (getD l 0 0) 1 low))
+
+choice : {A : Type 0} (n : ℕ) (a b : A) → (n ≡ 0 → ⊥) → b ≡ onCause n a (λ m. b)
+choice zero a b some = absurd (some refl)
+choice (suc n) a b some = refl
+
+-- a refusal keeps the cursor's cells
+pub after-refused : (given : List ℕ) (p : Page) (n : ℕ) → n ≡ stopNumber (p .stop) → (n ≡ 0 → ⊥) → given ≡ cursorAfter given p
+after-refused given p n told some = choice (stopNumber (p .stop)) (cursorCells (p .cursor)) given (λ none. some (told ∙ none))
+
+-- an accepted page leaves the cursor due next
+pub after-due : (given : List ℕ) (p : Page) (n : ℕ) → n ≡ stopNumber (p .stop) → n ≡ 0 → cursorCells (p .cursor) ≡ cursorAfter given p
+after-due given p n told none = sym (ap (λ m. onCause m (cursorCells (p .cursor)) (λ i. given)) (sym told ∙ none))

@@ -1,0 +1,89 @@
+-- Cursors go into cells and back, and cells that are no cursor are refused.
+use mathlib.Core.Path.{_≡_, refl, ap, _∙_}
+use mathlib.Core.List.{List, [], _∷_}
+use mathlib.Core.Option.{none}
+use mathlib.Core.Bool.{Bool, true, false}
+use Prim.Native.Nat.{ℕ, zero, suc, _-_, _<_}
+use native.Mathlib.Omega.{arith}
+use lib.IntN.{ℤ}
+use lib.ListN.{length, take, getD}
+use Rattle.lists.proofs.Padding.{padded-long}
+use Rattle.geometry.specs.declared.Rect.{Rect}
+use Rattle.plan.specs.declared.Shape.{Shape}
+use Rattle.plan.specs.Causes.{onCause}
+use Rattle.search.specs.Traversal.{Probe}
+use Rattle.search.specs.Paging.{Halt}
+use Rattle.search.specs.Paging as Paging
+use Rattle.walk.specs.Walk.{walkOf}
+use Rattle.paging.specs.declared.Cursor.{Cursor}
+use Rattle.paging.specs.declared.Fresh.{Fresh}
+use Rattle.paging.specs.declared.Page.{Page}
+use Rattle.paging.specs.Cursors.{dueCursor, endedCursor, sameCursor, findIn, resume}
+use Rattle.paging.specs.Calls.{freshCause, freshCall, stopOf, stopNumber, paged, pageOf, refusedPage, pageCause, pageCall}
+use Rattle.cells.specs.Cells.{cursorCells, noCursor, cursorIn, cursorAfter}
+use Rattle.cells.specs.Theorems.{CursorsInCells}
+use Rattle.cells.proofs.Cells.{in-none}
+
+-- five cells, read one by one
+five : (l : List ℕ) → length l ≡ 5 → getD l 0 0 ∷ getD l 1 0 ∷ getD l 2 0 ∷ getD l 3 0 ∷ getD l 4 0 ∷ [] ≡ l
+five [] h = absurd (omega arith)
+five (a ∷ []) h = absurd (omega arith)
+five (a ∷ b ∷ []) h = absurd (omega arith)
+five (a ∷ b ∷ c ∷ []) h = absurd (omega arith)
+five (a ∷ b ∷ c ∷ d ∷ []) h = absurd (omega arith)
+five (a ∷ b ∷ c ∷ d ∷ e ∷ []) h = refl
+five (a ∷ b ∷ c ∷ d ∷ e ∷ f ∷ l) h = absurd (omega arith)
+
+-- a cursor with five chosen places is read from its cells
+back-at : (t : Bool) (layer place filled : ℕ) (chosen : List ℕ) (next : ℕ) → length chosen ≡ 5 → let c : Cursor = record { ended = t; layer = layer; place = place; filled = filled; chosen = chosen; next = next } in cursorIn (cursorCells c) ≡ c
+back-at true layer place filled chosen next h = ap (λ (l : List ℕ). record { ended = true; layer = layer; place = place; filled = filled; chosen = l; next = next }) (five chosen h)
+back-at false layer place filled chosen next h = ap (λ (l : List ℕ). record { ended = false; layer = layer; place = place; filled = filled; chosen = l; next = next }) (five chosen h)
+
+back : (c : Cursor) → length (c .chosen) ≡ 5 → cursorIn (cursorCells c) ≡ c
+back c h = back-at (c .ended) (c .layer) (c .place) (c .filled) (c .chosen) (c .next) h
+
+-- the cursor of what is due has five chosen places
+due-five : (s : Shape) (w : List (Probe Rect)) → length (dueCursor s w .chosen) ≡ 5
+due-five s [] = refl
+due-five s (t ∷ w) = padded-long 5 (take (length (t .path) - 1) (t .path))
+
+first : (s : Shape) (cells : List ℤ) (order : List ℕ) → cursorIn (cursorCells (freshCall s cells order .cursor)) ≡ freshCall s cells order .cursor
+unfolding freshCall
+first s cells order = go (freshCause s cells order)
+  where
+    go : (n : ℕ) → let f = onCause {A = Fresh} n (record { number = 0; cursor = dueCursor s (walkOf s cells) }) (λ m. record { number = m; cursor = endedCursor }) in cursorIn (cursorCells (f .cursor)) ≡ f .cursor
+    go zero = back (dueCursor s (walkOf s cells)) (due-five s (walkOf s cells))
+    go (suc n) = refl
+
+-- an accepted page has no number
+accepted : (h : Halt) → stopNumber (stopOf h) ≡ 0
+accepted Paging.Ended = refl
+accepted Paging.Full = refl
+accepted Paging.Spent = refl
+
+chosen-next : (given : List ℕ) (n : ℕ) (p : Page) → stopNumber (p .stop) ≡ 0 → cursorIn (cursorCells (p .cursor)) ≡ p .cursor → let q = onCause n p (refusedPage (cursorIn given)) in cursorIn (cursorAfter given q) ≡ q .cursor
+chosen-next given zero p e b = ap (λ (m : ℕ). cursorIn (onCause m (cursorCells (p .cursor)) (λ i. given))) e ∙ b
+chosen-next given (suc n) p e b = refl
+
+next : (s : Shape) (cells : List ℤ) (order given : List ℕ) (budget : ℕ) (table : List ℕ) → let p = pageCall s cells order (cursorIn given) budget table in cursorIn (cursorAfter given p) ≡ p .cursor
+unfolding pageCall
+next s cells order given budget table =
+    let p = paged s cells (cursorIn given) budget table in
+    chosen-next given (pageCause s cells order (cursorIn given)) (pageOf s p) (accepted (p .halt)) (back (dueCursor s (p .rest)) (due-five s (p .rest)))
+
+-- no probe has the cursor that stands for none
+not-found : (s : Shape) (w : List (Probe Rect)) → findIn s noCursor w ≡ none
+unfolding sameCursor
+not-found s [] = refl
+not-found s (t ∷ w) = not-found s w
+
+no-resume : (s : Shape) (cells : List ℤ) → resume s cells noCursor ≡ none
+unfolding resume sameCursor
+no-resume s cells = not-found s (walkOf s cells)
+
+refused : (s : Shape) (cells : List ℤ) (order given : List ℕ) → 1 < getD given 0 0 → freshCause s cells order ≡ 0 → pageCause s cells order (cursorIn given) ≡ 6
+unfolding pageCause
+refused s cells order given high sound = rw (← in-none given high) (rw sound (rw (no-resume s cells) refl))
+
+pub cursors-in-cells : CursorsInCells
+cursors-in-cells = record { first = first; next = next; refused = refused }

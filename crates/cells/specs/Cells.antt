@@ -1,0 +1,58 @@
+-- Cursors and answers as cells: how the C interface lays them out. The number of a cause is returned; all cells of a refused answer are 0.
+use mathlib.Core.List.{List, [], _∷_}
+use mathlib.Core.Bool.{true, cond}
+use Prim.Native.Nat.{ℕ}
+use lib.Dec.{eqb, leb}
+use lib.ListN.{getD}
+use Rattle.plan.specs.declared.Shape.{Shape}
+use Rattle.plan.specs.Causes.{onCause}
+use Rattle.rows.specs.RowCall.{RowValues}
+use Rattle.paging.specs.declared.Cursor.{Cursor}
+use Rattle.paging.specs.declared.Page.{Page}
+use Rattle.paging.specs.declared.Stop.{Stop}
+use Rattle.paging.specs.declared.Stop.the-variants.{Ended, Full, Spent, Refused}
+use Rattle.paging.specs.Calls.{stopNumber, RunValues}
+
+-- the plan's shape of k and six sizes
+abbrev pub shapeOf : ℕ → List ℕ → Shape
+shapeOf k sizes = record { k = k; sizes = sizes }
+
+-- ---- cursors: whether the walk has ended (0 or 1), the guard's layer and place, how many slots are filled, the five chosen places, the place to try
+abbrev pub cursorCells : Cursor → List ℕ
+cursorCells c =
+    cond (c .ended) 1 0 ∷ c .layer ∷ c .place ∷ c .filled ∷ getD (c .chosen) 0 0 ∷ getD (c .chosen) 1 0 ∷ getD (c .chosen) 2 0 ∷ getD (c .chosen) 3 0 ∷ getD (c .chosen) 4 0 ∷ c .next ∷ []
+
+-- stands for cells that are no cursor: it says Ended and has a layer, so the page call refuses it by 6
+abbrev pub noCursor : Cursor
+noCursor = record { ended = true; layer = 1; place = 0; filled = 0; chosen = 0 ∷ 0 ∷ 0 ∷ 0 ∷ 0 ∷ []; next = 0 }
+
+-- the cursor in cells whose first is 0 or 1
+abbrev pub plainCursor : List ℕ → Cursor
+plainCursor l =
+    record { ended = eqb (getD l 0 0) 1; layer = getD l 1 0; place = getD l 2 0; filled = getD l 3 0; chosen = getD l 4 0 ∷ getD l 5 0 ∷ getD l 6 0 ∷ getD l 7 0 ∷ getD l 8 0 ∷ []; next = getD l 9 0 }
+
+-- the cursor in cells; a first cell above 1 makes them none
+abbrev pub cursorIn : List ℕ → Cursor
+cursorIn l = cond (leb (getD l 0 0) 1) (plainCursor l) noCursor
+
+-- ---- pages: why it stopped (1 Ended, 2 Full, 3 Spent), rows, probes, area
+abbrev pub stopCode : Stop → ℕ
+stopCode Ended = 1
+stopCode Full = 2
+stopCode Spent = 3
+stopCode (Refused cause) = 0
+
+abbrev pub pageCells : Page → List ℕ
+pageCells p = stopCode (p .stop) ∷ p .rows ∷ p .probes ∷ p .area ∷ []
+
+-- the cursor's cells afterwards: the cursor due next, or after a refusal what they were
+abbrev pub cursorAfter : List ℕ → Page → List ℕ
+cursorAfter given p = onCause (stopNumber (p .stop)) (cursorCells (p .cursor)) (λ n. given)
+
+-- ---- whole runs: rows, probes, area
+abbrev pub runCells : RunValues → List ℕ
+runCells v = v .rows ∷ v .probes ∷ v .area ∷ []
+
+-- ---- rows: the guard's layer, area
+abbrev pub rowCells : RowValues → List ℕ
+rowCells v = v .layer ∷ v .area ∷ []

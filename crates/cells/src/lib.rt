@@ -1,0 +1,179 @@
+// Cursors and the answers of calls as numbers and cells of fixed length, for languages without enums. The layout is in specs/Cells.antt.
+use paging::Cursor;
+use paging::Page;
+use paging::Run;
+use paging::Stop;
+use rows::RowAnswer;
+use sweep::OrderAnswer;
+use text::Writing;
+ghost use mathlib.Core.Path.{_≡_};
+ghost use Rattle.sweep.specs.Sweep.{orderNumber};
+ghost use Rattle.rows.specs.RowCall.{rowValues};
+ghost use Rattle.paging.specs.Calls.{stopNumber, runValues};
+ghost use Rattle.text.specs.Writer.{numberOf, lengthOf};
+ghost use Rattle.cells.specs.Cells.{cursorCells, cursorIn, stopCode, pageCells, cursorAfter, runCells, rowCells};
+
+// The number of a writer's answer.
+pub fn written_number(writing: Writing) -> u32
+    ensures { λ r. ⌜ r ≡ numberOf writing ⌝ }
+{
+    match writing {
+        Writing::Written(_) => 0,
+        Writing::Refused(cause) => cause,
+    }
+}
+
+// The length in a writer's answer, 0 for a refusal.
+pub fn written_length(writing: Writing) -> usize
+    ensures { λ r. ⌜ r ≡ lengthOf writing ⌝ }
+{
+    match writing {
+        Writing::Written(length) => length,
+        Writing::Refused(_) => 0,
+    }
+}
+
+// The number of an order maker's answer.
+pub fn order_number(answer: OrderAnswer) -> u32
+    ensures { λ r. ⌜ r ≡ orderNumber answer ⌝ }
+{
+    match answer {
+        OrderAnswer::Made => 0,
+        OrderAnswer::Refused(cause) => cause,
+    }
+}
+
+// The number of a row call's answer.
+pub fn row_number(answer: RowAnswer) -> u32
+    ensures { λ r. ⌜ r ≡ rowValues answer .number ⌝ }
+{
+    match answer {
+        RowAnswer::Refused(cause) => cause,
+        RowAnswer::NoRow => 0,
+        RowAnswer::Row(_, _) => 0,
+    }
+}
+
+// The cells of a row call's answer.
+pub fn row_cells(answer: RowAnswer) -> [u64; 2]
+    ensures { λ r. ⌜ r ≡ rowCells (rowValues answer) ⌝ }
+{
+    match answer {
+        RowAnswer::Refused(_) => [0, 0],
+        RowAnswer::NoRow => [0, 0],
+        RowAnswer::Row(layer, area) => [layer as u64, area],
+    }
+}
+
+// The cells of a cursor.
+pub fn cursor_cells(cursor: Cursor) -> [u32; 10]
+    ensures { λ r. ⌜ r ≡ cursorCells cursor ⌝ }
+{
+    let chosen = cursor.chosen;
+    [
+        cursor.ended as u32,
+        cursor.layer,
+        cursor.place,
+        cursor.filled,
+        chosen[0],
+        chosen[1],
+        chosen[2],
+        chosen[3],
+        chosen[4],
+        cursor.next,
+    ]
+}
+
+// The cursor in cells; where the first is above 1, one that no walk has.
+pub fn cursor_in(cells: &[u32; 10]) -> Cursor
+    ensures { λ r. ⌜ r ≡ cursorIn (now (cells .entry)) ⌝ }
+{
+    let ten = *cells;
+    if ten[0] > 1 {
+        return Cursor {
+            ended: true,
+            layer: 1,
+            place: 0,
+            filled: 0,
+            chosen: [0; 5],
+            next: 0,
+        };
+    }
+    Cursor {
+        ended: ten[0] == 1,
+        layer: ten[1],
+        place: ten[2],
+        filled: ten[3],
+        chosen: [ten[4], ten[5], ten[6], ten[7], ten[8]],
+        next: ten[9],
+    }
+}
+
+// The number of a stop, 0 where the page is accepted.
+pub fn stop_number(stop: Stop) -> u32
+    ensures { λ r. ⌜ r ≡ stopNumber stop ⌝ }
+{
+    match stop {
+        Stop::Ended => 0,
+        Stop::Full => 0,
+        Stop::Spent => 0,
+        Stop::Refused(cause) => cause,
+    }
+}
+
+// Why a page stopped, as a cell.
+pub fn stop_code(stop: Stop) -> u64
+    ensures { λ r. ⌜ r ≡ stopCode stop ⌝ }
+{
+    match stop {
+        Stop::Ended => 1,
+        Stop::Full => 2,
+        Stop::Spent => 3,
+        Stop::Refused(_) => 0,
+    }
+}
+
+// The cells of a page.
+pub fn page_cells(page: Page) -> [u64; 4]
+    ensures { λ r. ⌜ r ≡ pageCells page ⌝ }
+{
+    let stop = page.stop;
+    [
+        stop_code(stop),
+        page.rows as u64,
+        page.probes as u64,
+        page.area,
+    ]
+}
+
+// The cursor's cells after a page: what is due next, or as given after a refusal.
+pub fn cursor_after(given: &[u32; 10], page: Page) -> [u32; 10]
+    ensures { λ r. ⌜ r ≡ cursorAfter (now (given .entry)) page ⌝ }
+{
+    let stop = page.stop;
+    if stop_number(stop) != 0 {
+        return *given;
+    }
+    let due = page.cursor;
+    cursor_cells(due)
+}
+
+// The number of a whole run's answer.
+pub fn run_number(run: Run) -> u32
+    ensures { λ r. ⌜ r ≡ runValues run .number ⌝ }
+{
+    match run {
+        Run::Refused(cause) => cause,
+        Run::Done(_, _, _) => 0,
+    }
+}
+
+// The cells of a whole run's answer.
+pub fn run_cells(run: Run) -> [u64; 3]
+    ensures { λ r. ⌜ r ≡ runCells (runValues run) ⌝ }
+{
+    match run {
+        Run::Refused(_) => [0, 0, 0],
+        Run::Done(rows, probes, area) => [rows as u64, probes, area],
+    }
+}

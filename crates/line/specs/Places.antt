@@ -1,0 +1,53 @@
+-- Lines read from a place of a text, as the code does: no more than private contracts use.
+use mathlib.Core.Path.{_≡_}
+use mathlib.Core.List.{List, [], _∷_}
+use mathlib.Core.Option.{none, some}
+use mathlib.Core.Bool.{Bool, true, false, _&&_}
+use Prim.Native.Nat.{ℕ, _-_, _≤_, _<_}
+use lib.Dec.{eqb}
+use lib.IntN.{ℤ}
+use lib.ListN.{length, drop}
+use Rattle.decimal.specs.declared.Number.{Number}
+use Rattle.decimal.specs.Reading.{Reading}
+use Rattle.decimal.specs.Places.{placed}
+use Rattle.line.specs.declared.Line.{Line}
+use Rattle.line.specs.declared.Found.{Found}
+use Rattle.line.specs.declared.Found.the-variants.{At, Nothing}
+use Rattle.line.specs.Parsing.{field, fieldLine, rectLine, line}
+
+-- the byte b comes next
+abbrev pub nextIs : ℕ → List ℕ → Bool
+nextIs b [] = false
+nextIs b (a ∷ t) = eqb b a
+
+-- the text starts with a word
+abbrev pub startsWith : List ℕ → List ℕ → Bool
+startsWith [] t = true
+startsWith (w ∷ ws) t = nextIs w t && startsWith ws (drop 1 t)
+
+-- the number at a place that has the byte e behind it
+unfoldable pub fieldFrom : List ℕ → ℕ → ℕ → Number
+fieldFrom s at e = placed (length s) (field e (drop at s))
+
+-- a line and the place behind it, in a text of n bytes
+abbrev pub found : ℕ → Reading Line → Found
+found n none = Nothing
+found n (some p) = At (p .0) (n - length (p .1))
+
+-- the four fields of a RECT line at a place
+unfoldable pub rectFrom : List ℕ → ℕ → Found
+rectFrom s at = found (length s) (rectLine (drop at s))
+
+-- the line that f makes of the number at a place, which ends the line
+unfoldable pub countFrom : (ℤ → Line) → List ℕ → ℕ → Found
+countFrom f s at = found (length s) (fieldLine f (drop at s))
+
+-- the line at a place
+unfoldable pub lineFrom : List ℕ → ℕ → Found
+lineFrom s at = found (length s) (line (drop at s))
+
+-- a line stands at a place, and the text goes on at i
+pub record Line-at (s : List ℕ) (at : ℕ) (l : Line) (i : ℕ) : Type 0 where
+  pub reads : line (drop at s) ≡ some (l, drop i s)
+  pub after : at < i
+  pub inside : i ≤ length s

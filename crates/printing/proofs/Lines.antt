@@ -1,0 +1,77 @@
+-- Laws of the report's lines: their parts, and how long they may be.
+use mathlib.Core.Path.{_≡_, refl, sym, ap, _∙_}
+use mathlib.Core.List.{List, [], _∷_, _++_, map, append-assoc}
+use Prim.Native.Nat.{ℕ, suc, _+_, _*_, _/_, _%_, _≤_}
+use native.Mathlib.Nat.{div-one}
+use native.Mathlib.Omega.{arith}
+use lib.ListN.{length, length-append}
+use Rattle.decimal.specs.Numerals.{digits, decimal}
+use Rattle.decimal.proofs.Numerals.{length-decimal, size-most}
+use Rattle.plan.specs.Plan.{Layer}
+use Rattle.paging.specs.Calls.{cellsOf}
+use Rattle.printing.specs.Lines.{fieldsEnd, ROW, rowFields, line, rowLine, rowLines, hundredths, squareMetres, totalLine, refusedLine}
+use Rattle.printing.specs.Parts.{tabbed}
+
+-- ---- parts
+numbers-first : (ns : List ℕ) (fs : List (List ℕ)) → fieldsEnd (map decimal ns ++ fs) ≡ tabbed ns ++ fieldsEnd fs
+numbers-first [] fs = refl
+numbers-first (n ∷ ns) fs =
+    ap (λ (l : List ℕ). 9 ∷ l) (ap (λ (l : List ℕ). decimal n ++ l) (numbers-first ns fs) ∙ sym (append-assoc (decimal n) (tabbed ns) (fieldsEnd fs)))
+
+pub row-parts : (layer : ℕ) (row : List ℕ) (area : ℕ)
+    → fieldsEnd (rowFields layer row area) ≡ (9 ∷ decimal layer) ++ (tabbed row ++ fieldsEnd (decimal area ∷ []))
+unfolding rowFields
+row-parts layer row area = ap (λ (l : List ℕ). (9 ∷ decimal layer) ++ l) (numbers-first row (decimal area ∷ []))
+
+-- the point and two decimals, given the digits
+pub decimals-of : (h tenths last : ℕ) → tenths ≡ 48 + h / 10 % 10 → last ≡ 48 + h % 10 → 46 ∷ digits 2 h ≡ 46 ∷ tenths ∷ last ∷ []
+decimals-of h tenths last e f = rw (div-one h, e, f)
+
+-- the square metres of an area, given its hundredths
+pub metres-of : (area h : ℕ) → h ≡ hundredths area → fieldsEnd (squareMetres (hundredths area) ∷ []) ≡ (9 ∷ squareMetres h) ++ fieldsEnd []
+metres-of area h e = rw e
+
+-- ---- lengths: no number has more than twenty digits
+few : (n : ℕ) → length (decimal n) ≤ 20
+few n = omega (arith, length-decimal n, size-most 19 n)
+
+-- a field and what follows
+field-few : (f r : List ℕ) (m n : ℕ) → length f ≤ m → length r ≤ n → length (9 ∷ f ++ r) ≤ suc (m + n)
+field-few f r m n h k = omega (arith, length-append f r)
+
+tabbed-few : (ns r : List ℕ) → length (tabbed ns ++ r) ≤ 21 * length ns + length r
+tabbed-few [] r = omega arith
+tabbed-few (n ∷ ns) r = rw (append-assoc (decimal n) (tabbed ns) r) (omega (arith, length-append (decimal n) (tabbed ns ++ r), few n, tabbed-few ns r))
+
+row-few : (layer : ℕ) (row : List ℕ) (area : ℕ) → length (line ROW (rowFields layer row area)) ≤ 46 + 21 * length row
+unfolding line
+row-few layer row area =
+    let end = fieldsEnd (decimal area ∷ []) in
+    let e : length end ≤ 22 = field-few (decimal area) (10 ∷ []) 20 1 (few area) (omega arith) in
+    let n : length (tabbed row ++ end) ≤ 21 * length row + 22 = omega (arith, tabbed-few row end, e) in
+    rw (row-parts layer row area) (omega (arith, field-few (decimal layer) (tabbed row ++ end) 20 (21 * length row + 22) (few layer) n))
+
+row-line-few : (ls : List Layer) (row : List ℕ) → length (rowLine ls row) ≤ 46 + 21 * length row
+row-line-few ls row = row-few _ row _
+
+pub rows-few : (ls : List Layer) (rows : List (List ℕ)) → length (rowLines ls rows) ≤ 46 * length rows + 21 * length (cellsOf rows)
+rows-few ls [] = omega arith
+rows-few ls (row ∷ rows) =
+    omega (arith, length-append (rowLine ls row) (rowLines ls rows), row-line-few ls row, length-append row (cellsOf rows), rows-few ls rows)
+
+metres-few : (h : ℕ) → length (squareMetres h) ≤ 23
+unfolding squareMetres
+metres-few h = omega (arith, length-append (decimal (h / 100)) (46 ∷ digits 2 h), few (h / 100))
+
+pub total-few : (rows probes area : ℕ) → length (totalLine rows probes area) ≤ 72
+unfolding line
+total-few rows probes area =
+    let h = hundredths area in
+    let last = fieldsEnd (squareMetres h ∷ []) in
+    let a : length last ≤ 25 = field-few (squareMetres h) (10 ∷ []) 23 1 (metres-few h) (omega arith) in
+    let b = field-few (decimal probes) last 20 25 (few probes) a in
+    omega (arith, field-few (decimal rows) (fieldsEnd (decimal probes ∷ squareMetres h ∷ [])) 20 46 (few rows) b)
+
+pub refused-few : (cause : ℕ) → length (refusedLine cause) ≤ 29
+unfolding line
+refused-few cause = omega (arith, field-few (decimal cause) (10 ∷ []) 20 1 (few cause) (omega arith))

@@ -1,0 +1,113 @@
+-- Laws of a table's rows on their way to lines.
+use mathlib.Core.Path.{_≡_, sym, ap, _∙_}
+use mathlib.Core.Bool.{true}
+use mathlib.Core.List.{List, _∷_, _++_}
+use Prim.Native.Nat.{ℕ, suc, _+_, _-_, _≤_, _<_}
+use native.Mathlib.Omega.{arith}
+use lib.IntN.{ℤ}
+use lib.ListN.{length, take, drop, length-take, length-drop}
+use lib.Seq.{drop-drop}
+use Rattle.lists.specs.Lists.{_and_}
+use Rattle.lists.proofs.Tests.{both}
+use Rattle.geometry.specs.Rectangles.{nonempty}
+use Rattle.plan.specs.Plan.{Layer, layersOf}
+use Rattle.rows.specs.declared.RowAnswer.{RowAnswer}
+use Rattle.rows.specs.declared.RowAnswer.the-variants.{Refused, NoRow, Row}
+use Rattle.join.specs.Join.{rects, commonOf, areaIn, guardLayer}
+use Rattle.join.specs.Table.{sizesIn}
+use Rattle.rows.specs.RowCall.{fits, isRow, told, rowValues, rowAnswer}
+use Rattle.rows.proofs.RowCall.{fits-long, sizes-of}
+use Rattle.paging.specs.Theorems.{rowsIn}
+use Rattle.decimal.specs.Stores.{Put}
+use Rattle.decimal.proofs.Stores.{Left, left-all, left-put, left-none}
+use Rattle.printing.specs.Lines.{line, ROW, rowFields, rowLine, rowLines}
+use Rattle.printing.specs.Parts.{AllRows, Rows, Room}
+use Rattle.printing.proofs.Puts.{room-left}
+
+-- ---- what the row call answers for a row of the join
+module _ (ls : List Layer) (row : List ℕ) (r : RowAnswer) (is : isRow ls row ≡ true) (e : r ≡ rowAnswer (told ls row)) where
+  answered : r ≡ Row (suc (guardLayer (rects ls row))) (areaIn ls row)
+  unfolding told
+  answered = e ∙ rw is
+
+  pub not-refused : (cause : ℕ) → r ≡ Refused cause → ⊥
+  not-refused cause f = omega (arith, ap (λ (a : RowAnswer). rowValues a .layer) (sym f ∙ answered))
+
+  pub not-none : r ≡ NoRow → ⊥
+  not-none f = omega (arith, ap (λ (a : RowAnswer). rowValues a .layer) (sym f ∙ answered))
+
+  -- its line is made of what is told
+  module _ (layer area : ℕ) (f : r ≡ Row layer area) where
+    pub row-told : rowLine ls row ≡ line ROW (rowFields layer row area)
+    row-told =
+        let g = sym f ∙ answered in
+        let l : layer ≡ suc (guardLayer (rects ls row)) = ap (λ (a : RowAnswer). rowValues a .layer) g in
+        let a : area ≡ areaIn ls row = ap (λ (a : RowAnswer). rowValues a .area) g in
+        rw (l, a)
+
+    pub row-room : (buf : List ℕ) (at : ℕ) → Room buf at (rowLine ls row) → Room buf at (line ROW (rowFields layer row area))
+    row-room buf at h = rw row-told at h
+
+-- a row has a place for each layer
+row-long : (sizes : List ℕ) (cells : List ℤ) (row : List ℕ) → isRow (layersOf sizes cells) row ≡ true → length row ≡ length sizes
+unfolding isRow
+row-long sizes cells row e =
+    let ls = layersOf sizes cells in
+    fits-long (sizesIn ls) row (both (fits (sizesIn ls) row) (nonempty (commonOf (rects ls row))) e .0) ∙ ap length (sizes-of sizes cells)
+
+module _ (sizes : List ℕ) (k : ℕ) (cells : List ℤ) (table : List ℕ) (n : ℕ) (first : List ℕ) (from : ℕ) where
+  -- the layers
+  abbrev among : List Layer
+  among = layersOf (take k sizes) cells
+
+  -- the first i rows are printed; the others stand from `start` on, and their lines are left to be put at `at`
+  pub record Ahead (buf : List ℕ) (at start i : ℕ) : Type 0 where
+    pub inside : i ≤ n
+    pub rows : AllRows among (rowsIn k (n - i) (drop start table))
+    pub left : Left first from (rowLines among (rowsIn k n table)) buf at (rowLines among (rowsIn k (n - i) (drop start table)))
+
+  pub none-yet : Rows sizes k cells table n → Ahead first from 0 0
+  none-yet h =
+      let z : n - 0 ≡ n = omega arith in
+      record { inside = omega arith; rows = rw z (h .all); left = rw z (left-all _ _ _) }
+
+  module _ (buf : List ℕ) (at start i : ℕ) (a : Ahead buf at start i) where
+    pub all-printed : n ≤ i → Put first from (rowLines among (rowsIn k n table)) buf at
+    all-printed h =
+        let z : n - i ≡ 0 = omega arith in
+        left-none _ _ _ _ _ (rw z at (a .left))
+
+    module _ (h : i < n) where
+      -- the row at `start`, and those behind it
+      split : rowsIn k (n - i) (drop start table) ≡ take k (drop start table) ∷ rowsIn k (n - (i + 1)) (drop (start + k) table)
+      split =
+          let e : n - i ≡ suc (n - (i + 1)) = omega arith in
+          rw (e, drop-drop k start table)
+
+      parts : (isRow among (take k (drop start table)) ≡ true) × AllRows among (rowsIn k (n - (i + 1)) (drop (start + k) table))
+      parts = heads (rw split at (a .rows))
+        where
+          heads : {row : List ℕ} {rows : List (List ℕ)} → AllRows among (row ∷ rows) → (isRow among row ≡ true) × AllRows among rows
+          heads (_and_ p ps) = (p, ps)
+
+      left : Left first from (rowLines among (rowsIn k n table)) buf at (rowLine among (take k (drop start table)) ++ rowLines among (rowsIn k (n - (i + 1)) (drop (start + k) table)))
+      left = rw split at (a .left)
+
+      -- it lies in the table
+      pub row-inside : Rows sizes k cells table n → start + k ≤ length table
+      row-inside r =
+          let e = length-take k sizes in
+          let l = row-long (take k sizes) cells (take k (drop start table)) (parts .0) in
+          omega (arith, e, r .inside, r .framed .some, l, length-take k (drop start table), length-drop start table)
+
+      module _ (row : List ℕ) (e : row ≡ take k (drop start table)) where
+        pub is-row : isRow among row ≡ true
+        is-row = rw e (parts .0)
+
+        pub next-row-room : Room first from (rowLines among (rowsIn k n table)) → Room buf at (rowLine among row)
+        next-row-room r = rw e (room-left _ _ _ _ _ (rowLine among (take k (drop start table))) _ r left)
+
+        -- its line is put
+        pub next-row : (last : List ℕ) (r : ℕ) → Put buf at (rowLine among row) last r → Ahead last r (start + k) (i + 1)
+        next-row last r p =
+            record { inside = omega arith; rows = parts .1; left = left-put _ _ _ _ _ (rowLine among (take k (drop start table))) _ _ _ (rw e at p) left }

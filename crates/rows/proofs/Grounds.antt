@@ -1,0 +1,150 @@
+-- Laws of what rectangles share, found one by one: the row call's loop.
+use mathlib.Core.Path.{_≡_, refl, sym, ap, ap₂, _∙_}
+use mathlib.Core.List.{List, [], _∷_}
+use mathlib.Core.Bool.{Bool, true, false, cond}
+use Prim.Native.Nat.{ℕ, suc, _+_, _*_, _≤_, _<_}
+use native.Mathlib.Omega.{arith}
+use native.Mathlib.Numerals.{add-one}
+use lib.IntN.{ℤ}
+use lib.Signed.{ltZ, _≤ℤ_}
+use lib.ListN.{length, getD, take, drop, drop-of-length-le}
+use lib.Seq.{drop-cons, drop-drop}
+use Rattle.lists.specs.Lists.{sum}
+use Rattle.lists.proofs.Tests.{clash, never-true}
+use Rattle.geometry.specs.declared.Rect.{Rect}
+use Rattle.geometry.specs.declared.Meeting.{Meeting}
+use Rattle.geometry.specs.declared.Meeting.the-variants.{Apart, Common}
+use Rattle.geometry.specs.Rectangles.{maxZ, common, nonempty, meets, meeting, inRange}
+use Rattle.geometry.proofs.Integers.{zarith}
+use Rattle.geometry.proofs.Rectangles.{max-law, range-nonempty, meeting-apart, meeting-common}
+use Rattle.plan.specs.Plan.{rectAt, layersOf}
+use Rattle.plan.specs.Frames.{Framed}
+use Rattle.plan.proofs.Spots.{rect-take}
+use Rattle.rows.specs.declared.Ground.{Ground}
+use Rattle.rows.specs.declared.Sharing.{Sharing}
+use Rattle.rows.specs.declared.Sharing.the-variants.{Nothing, Shared}
+use Rattle.join.specs.Join.{rects, cut, sameZ, firstAt}
+use Rattle.rows.specs.RowCall.{fits}
+use Rattle.rows.specs.Grounds.{takeIn, sharedBy}
+use Rattle.join.proofs.Join.{cut-some, cut-above, same-yes, same-true}
+use Rattle.rows.proofs.RowCall.{fits-long, fits-at}
+
+-- ---- one rectangle more
+module _ (g : Ground) (r : Rect) (i : ℕ) (m : Meeting) (made : m ≡ meeting (g .common) r) where
+  pub take-apart : m ≡ Apart → Nothing ≡ takeIn g r i
+  unfolding takeIn
+  take-apart e = rw (meeting-apart (g .common) r m made e)
+
+  pub take-more : (c : Rect) (n : ℕ) → m ≡ Common c → n ≡ cond (ltZ (g .common .left) (r .left)) i (g .guard) → Shared (record { common = c; guard = n }) ≡ takeIn g r i
+  unfolding takeIn
+  take-more c n e q = let k = meeting-common (g .common) r m made c e in rw (k .0, k .1, q)
+
+-- ---- rectangle by rectangle
+-- what is shared after all of the rectangles, which are those of layer i and the later ones
+abbrev onward : (Ground → Sharing) → Sharing → Sharing
+onward f Nothing = Nothing
+onward f (Shared g) = f g
+
+abbrev walked : Ground → ℕ → List Rect → Sharing
+walked g i [] = Shared g
+walked g i (r ∷ rs) = onward (λ h. walked h (suc i) rs) (takeIn g r i)
+
+-- the guard so far stays, where the next left is not greater
+guard-step : (x y m : ℤ) (i g n : ℕ) → maxZ x y ≤ℤ m → cond (sameZ (maxZ x y) m) (cond (ltZ x y) i g) (suc i + n) ≡ cond (sameZ x m) g (i + cond (sameZ y m) 0 (suc n))
+guard-step x y m i g n h = go (ltZ x y) refl (sameZ x m) refl (sameZ y m) refl
+  where
+    go : (t : Bool) → ltZ x y ≡ t → (u : Bool) → sameZ x m ≡ u → (v : Bool) → sameZ y m ≡ v → cond (sameZ (maxZ x y) m) (cond t i g) (suc i + n) ≡ cond u g (i + cond v 0 (suc n))
+    go true e true f v k = let z = same-true x m f in absurd (omega (zarith, max-law x y))
+    go true e false f true k = let p : maxZ x y ≡ y = omega (zarith, max-law x y) in rw (p, k) (omega arith)
+    go true e false f false k = let p : maxZ x y ≡ y = omega (zarith, max-law x y) in rw (p, k) (omega arith)
+    go false e true f v k = let p : maxZ x y ≡ x = omega (zarith, max-law x y) in rw (p, f)
+    go false e false f true k = let z = same-true y m k in clash (same-yes x m (omega (zarith, max-law x y))) f
+    go false e false f false k = let p : maxZ x y ≡ x = omega (zarith, max-law x y) in rw (p, f) (omega arith)
+
+-- ---- the guard that is found: that of the first, if its left is the greatest, or the first of the others
+abbrev ground : Ground → ℕ → List Rect → Ground
+ground g i rs =
+    record { common = cut (g .common) rs; guard = cond (sameZ (g .common .left) (cut (g .common) rs .left)) (g .guard) (i + firstAt (cut (g .common) rs .left) rs) }
+
+walked-is : (g : Ground) (i : ℕ) (rs : List Rect) → nonempty (g .common) ≡ true → walked g i rs ≡ cond (nonempty (cut (g .common) rs)) (Shared (ground g i rs)) Nothing
+unfolding takeIn meets common
+walked-is g i [] e = rw (e, same-yes (g .common .left) (g .common .left) refl)
+walked-is g i (r ∷ rs) e = go (nonempty (common (g .common) r)) refl (walked-is (next r) (suc i) rs)
+  where
+    next : Rect → Ground
+    next r = record { common = common (g .common) r; guard = cond (ltZ (g .common .left) (r .left)) i (g .guard) }
+
+    go : (t : Bool) → nonempty (common (g .common) r) ≡ t → (nonempty (common (g .common) r) ≡ true → walked (next r) (suc i) rs ≡ cond (nonempty (cut (common (g .common) r) rs)) (Shared (ground (next r) (suc i) rs)) Nothing)
+        → onward (λ h. walked h (suc i) rs) (cond t (Shared (next r)) Nothing) ≡ cond (nonempty (cut (common (g .common) r) rs)) (Shared (ground g i (r ∷ rs))) Nothing
+    go true q ih = ih q ∙ ap (λ (n : ℕ). cond (nonempty (cut (common (g .common) r) rs)) (Shared (record { common = cut (common (g .common) r) rs; guard = n })) Nothing) (guard-step (g .common .left) (r .left) _ i (g .guard) _ (cut-above (common (g .common) r) rs .0))
+    go false q ih = rw (never-true (nonempty (cut (common (g .common) r) rs)) (λ p. clash (cut-some (common (g .common) r) rs p) q))
+
+-- all of a row's rectangles, from the first on
+walked-all : (r : Rect) (rs : List Rect) → nonempty r ≡ true → walked (record { common = r; guard = 0 }) 1 rs ≡ sharedBy (r ∷ rs)
+unfolding sharedBy
+walked-all r rs e =
+    let q : 1 + firstAt (cut r rs .left) rs ≡ suc (firstAt (cut r rs .left) rs) = omega arith in
+    walked-is (record { common = r; guard = 0 }) 1 rs e ∙ rw q
+
+-- ---- layer by layer: after j layers, which have `start` rectangles, those that are left lead to the whole
+pub record Through (sizes : List ℕ) (cells : List ℤ) (row : List ℕ) (g : Ground) (start j : ℕ) : Type 0 where
+  pub some : 1 ≤ j
+  pub within : j ≤ length sizes
+  pub sums : start + sum (drop j sizes) ≡ sum sizes
+  pub same : walked g j (rects (layersOf (drop j sizes) (drop (4 * start) cells)) (drop j row)) ≡ sharedBy (rects (layersOf sizes cells) row)
+
+pub first-reads : (sizes : List ℕ) (cells : List ℤ) (row : List ℕ) → Framed sizes cells → fits sizes row ≡ true
+    → (4 * 0 + 4 * getD sizes 0 0 ≤ length cells) × (getD row 0 0 < getD sizes 0 0)
+first-reads [] cells row f e = absurd (omega (arith, f .some))
+first-reads (n ∷ ns) cells row f e = (omega (arith, f .whole), fits-at (n ∷ ns) row 0 e (omega arith))
+
+pub through-first : (sizes : List ℕ) (cells : List ℤ) (row : List ℕ) (r : Rect) → Framed sizes cells → fits sizes row ≡ true
+    → r ≡ rectAt (take (4 * getD sizes 0 0) (drop (4 * 0) cells)) (getD row 0 0) → Through sizes cells row (record { common = r; guard = 0 }) (getD sizes 0 0) 1
+through-first [] cells row r f e q = absurd (omega (arith, f .some))
+through-first (n ∷ ns) cells [] r f e q = clash e refl
+through-first (n ∷ ns) cells (p ∷ row) r f e q = record {
+  some = omega arith;
+  within = omega (arith, f .some);
+  sums = refl;
+  same = walked-all r (rects (layersOf ns (drop (4 * n) cells)) row) solid ∙ ap (λ (z : Rect). sharedBy (z ∷ rects (layersOf ns (drop (4 * n) cells)) row)) q;
+}
+  where
+    solid : nonempty r ≡ true
+    solid =
+        let h = fits-at (n ∷ ns) (p ∷ row) 0 e (omega arith) in
+        range-nonempty r (ap inRange (q ∙ rect-take cells n p h) ∙ f .ranged p (omega arith))
+
+module _ (sizes : List ℕ) (cells : List ℤ) (row : List ℕ) (g : Ground) (start j : ℕ) (t : Through sizes cells row g start j) (e : fits sizes row ≡ true) (h : j < length sizes) where
+  pub sum-next : start + getD sizes j 0 + sum (drop (suc j) sizes) ≡ sum sizes
+  sum-next = omega (arith, t .sums, ap sum (drop-cons sizes j 0 h))
+
+  -- the next layer and its rectangle are there
+  pub through-reads : Framed sizes cells → (4 * start + 4 * getD sizes j 0 ≤ length cells) × (getD row j 0 < getD sizes j 0)
+  through-reads f = (omega (arith, sum-next, f .whole), fits-at sizes row j e h)
+
+  module _ (r : Rect) (p : r ≡ rectAt (take (4 * getD sizes j 0) (drop (4 * start) cells)) (getD row j 0)) where
+    later : drop (4 * getD sizes j 0) (drop (4 * start) cells) ≡ drop (4 * (start + getD sizes j 0)) cells
+    later =
+        let q : 4 * start + 4 * getD sizes j 0 ≡ 4 * (start + getD sizes j 0) = omega arith in
+        drop-drop (4 * getD sizes j 0) (4 * start) cells ∙ ap (λ (n : ℕ). drop n cells) q
+
+    abbrev rest : List Rect
+    rest = rects (layersOf (drop (suc j) sizes) (drop (4 * (start + getD sizes j 0)) cells)) (drop (suc j) row)
+
+    step : onward (λ d. walked d (suc j) rest) (takeIn g r j) ≡ sharedBy (rects (layersOf sizes cells) row)
+    step =
+        sym
+        (ap₂ (λ (ns ps : List ℕ). walked g j (rects (layersOf ns (drop (4 * start) cells)) ps)) (drop-cons sizes j 0 h) (drop-cons row j 0 (omega (arith, fits-long sizes row e)))
+        ∙ ap₂ (λ (z : Rect) (cs : List ℤ). walked g j (z ∷ rects (layersOf (drop (suc j) sizes) cs) (drop (suc j) row))) (sym p) later)
+        ∙ t .same
+
+    pub through-more : (d : Ground) → Shared d ≡ takeIn g r j → Through sizes cells row d (start + getD sizes j 0) (j + 1)
+    through-more d q = rw add-one (record { some = omega arith; within = h; sums = sum-next; same = ap (onward (λ d. walked d (suc j) rest)) q ∙ step })
+
+    pub through-stop : Nothing ≡ takeIn g r j → Nothing ≡ sharedBy (rects (layersOf sizes cells) row)
+    through-stop q = ap (onward (λ d. walked d (suc j) rest)) q ∙ step
+
+pub through-last : (sizes : List ℕ) (cells : List ℤ) (row : List ℕ) (g : Ground) (start j : ℕ) → Through sizes cells row g start j → length sizes ≤ j
+    → Shared g ≡ sharedBy (rects (layersOf sizes cells) row)
+through-last sizes cells row g start j t h =
+    sym (ap (λ (ns : List ℕ). walked g j (rects (layersOf ns (drop (4 * start) cells)) (drop j row))) (drop-of-length-le sizes h)) ∙ t .same

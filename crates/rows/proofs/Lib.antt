@@ -1,0 +1,4 @@
+pub mod RowCall
+pub mod Grounds
+pub mod Answers
+pub mod Theorems

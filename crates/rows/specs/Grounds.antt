@@ -1,0 +1,19 @@
+-- What the functions of the row call promise one another; no public contract cites it.
+use mathlib.Core.List.{List}
+use mathlib.Core.Bool.{cond}
+use Prim.Native.Nat.{ℕ}
+use lib.Signed.{ltZ}
+use Rattle.geometry.specs.declared.Rect.{Rect}
+use Rattle.geometry.specs.Rectangles.{common, nonempty, meets}
+use Rattle.rows.specs.declared.Ground.{Ground}
+use Rattle.rows.specs.declared.Sharing.{Sharing}
+use Rattle.rows.specs.declared.Sharing.the-variants.{Nothing, Shared}
+use Rattle.join.specs.Join.{commonOf, guardLayer}
+
+-- the ground with one rectangle more, that of layer i: the guard is the first of the greatest lefts
+unfoldable pub takeIn : Ground → Rect → ℕ → Sharing
+takeIn g r i = cond (meets (g .common) r) (Shared (record { common = common (g .common) r; guard = cond (ltZ (g .common .left) (r .left)) i (g .guard) })) Nothing
+
+-- what rectangles share
+unfoldable pub sharedBy : List Rect → Sharing
+sharedBy rs = cond (nonempty (commonOf rs)) (Shared (record { common = commonOf rs; guard = guardLayer rs })) Nothing

@@ -1,0 +1,3 @@
+pub mod RowCall
+pub mod Theorems
+pub mod Grounds

@@ -1,0 +1,133 @@
+// Rows: what lent cells name in the table of a plan (01: the row call), and what the rectangles of a row have in common.
+use geometry::Meeting;
+use geometry::Rect;
+use geometry::area;
+use geometry::meet;
+use plan::Shape;
+use plan::layer_cells;
+use plan::plan_cause;
+use plan::rect_at;
+ghost use mathlib.Core.Path.{_≡_};
+ghost use mathlib.Core.Bool.{true};
+ghost use Prim.Native.Nat.{_+_, _*_, _<_, _≤_};
+ghost use lib.ListN.{length, take, drop};
+ghost use Rattle.plan.specs.Plan.{rectAt, layersOf};
+ghost use Rattle.plan.specs.Frames.{Framed};
+ghost use Rattle.join.specs.Join.{rects};
+ghost use Rattle.rows.specs.RowCall.{fits, told, rowCall, rowValues, rowAnswer};
+ghost use Rattle.rows.specs.Grounds.{takeIn, sharedBy};
+
+// What the row call answers.
+pub enum RowAnswer {
+    Refused(u32),
+    NoRow,
+    // The left guard's layer, from 1, and the area.
+    Row(u32, u64),
+}
+
+// What the first rectangles of a row have in common, and the layer, from 0, of their left guard.
+pub struct Ground {
+    pub common: Rect,
+    pub guard: u32,
+}
+
+pub enum Sharing {
+    Nothing,
+    Shared(Ground),
+}
+
+// What the lent cells name in the table of a plan.
+pub fn row(shape: Shape, cells: &[i32], places: &[u32]) -> RowAnswer
+    ensures answer { λ r. ⌜ r ≡ rowAnswer (rowCall shape (now (cells .entry)) (now (places .entry))) ⌝ }
+    ensures values { λ r. ⌜ rowValues r ≡ rowCall shape (now (cells .entry)) (now (places .entry)) ⌝ }
+{
+    let cause = plan_cause(shape, cells);
+    if cause != 0 {
+        return RowAnswer::Refused(cause);
+    }
+    row_among(&shape.sizes, shape.k as usize, cells, places)
+}
+
+// The row among the first k layers of a sound plan.
+pub fn row_among(sizes: &[u32], k: usize, cells: &[i32], row: &[u32]) -> RowAnswer
+    requires { ⌜ (k ≤ length (now sizes)) × Framed (take k (now sizes)) (now cells) ⌝ }
+    ensures { λ r. ⌜ r ≡ rowAnswer (told (layersOf (take k (now (sizes .entry))) (now (cells .entry))) (now (row .entry))) ⌝ }
+{
+    row_of(&sizes[..k], cells, row)
+}
+
+fn row_of(sizes: &[u32], cells: &[i32], row: &[u32]) -> RowAnswer
+    requires { ⌜ Framed (now sizes) (now cells) ⌝ }
+    ensures { λ r. ⌜ r ≡ rowAnswer (told (layersOf (now (sizes .entry)) (now (cells .entry))) (now (row .entry))) ⌝ }
+{
+    if !all_fit(sizes, row) {
+        return RowAnswer::NoRow;
+    }
+    match share(sizes, cells, row) {
+        Sharing::Nothing => RowAnswer::NoRow,
+        Sharing::Shared(g) => RowAnswer::Row(g.guard + 1, area(g.common)),
+    }
+}
+
+// One place for each size, below it.
+fn all_fit(sizes: &[u32], row: &[u32]) -> bool
+    ensures { λ r. ⌜ r ≡ fits (now (sizes .entry)) (now (row .entry)) ⌝ }
+{
+    if row.len() != sizes.len() {
+        return false;
+    }
+    let mut j = 0;
+    while j < sizes.len() {
+        if row[j] >= sizes[j] {
+            return false;
+        }
+        j += 1;
+    }
+    true
+}
+
+// What the rectangles of a row that fits share.
+fn share(sizes: &[u32], cells: &[i32], row: &[u32]) -> Sharing
+    requires { ⌜ Framed (now sizes) (now cells) ⌝ }
+    requires { ⌜ fits (now sizes) (now row) ≡ true ⌝ }
+    ensures { λ r. ⌜ r ≡ sharedBy (rects (layersOf (now (sizes .entry)) (now (cells .entry))) (now (row .entry))) ⌝ }
+{
+    let mut start = sizes[0] as usize;
+    let first = rect_in(cells, 0, start, row[0] as usize);
+    let mut g = Ground {
+        common: first,
+        guard: 0,
+    };
+    let mut j = 1;
+    while j < sizes.len() {
+        let size = sizes[j] as usize;
+        let r = rect_in(cells, start, size, row[j] as usize);
+        let Sharing::Shared(next) = take_in(g, r, j as u32) else {
+            return Sharing::Nothing;
+        };
+        g = next;
+        start += size;
+        j += 1;
+    }
+    Sharing::Shared(g)
+}
+
+// The ground with the rectangle of one layer more.
+fn take_in(g: Ground, r: Rect, layer: u32) -> Sharing
+    ensures { λ v. ⌜ v ≡ takeIn g r layer ⌝ }
+{
+    let c = g.common;
+    let Meeting::Common(common) = meet(c, r) else {
+        return Sharing::Nothing;
+    };
+    let guard = if c.left < r.left { layer } else { g.guard };
+    Sharing::Shared(Ground { common, guard })
+}
+
+// The rectangle at a place of the layer that begins after `start` rectangles.
+fn rect_in(cells: &[i32], start: usize, size: usize, place: usize) -> Rect
+    requires { ⌜ (4 * start + 4 * size ≤ length (now cells)) × (place < size) ⌝ }
+    ensures { λ r. ⌜ r ≡ rectAt (take (4 * size) (drop (4 * start) (now (cells .entry)))) place ⌝ }
+{
+    rect_at(layer_cells(cells, start, size), place)
+}
