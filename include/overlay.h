@@ -5,7 +5,6 @@
 #ifndef OVERLAY_H
 #define OVERLAY_H
 
-#include <stdbool.h>
 #include <stddef.h>
 #include <stdint.h>
 
@@ -22,8 +21,9 @@ uint32_t overlay_plan_cause(uint32_t k, const uint32_t sizes[6], const int32_t *
 uint32_t overlay_make_order(uint32_t k, const uint32_t sizes[6], const int32_t *cells, size_t cells_length,
                             uint32_t *order, size_t order_length);
 
-/* Whether an order buffer holds the sweep order of the cells. */
-bool overlay_is_order(const int32_t *cells, size_t cells_length, const uint32_t *order, size_t order_length);
+/* The first of the causes 1 to 5 that applies to a plan and an order. */
+uint32_t overlay_order_cause(uint32_t k, const uint32_t sizes[6], const int32_t *cells, size_t cells_length,
+                             const uint32_t *order, size_t order_length);
 
 /* What places name in the table of a plan. The answer: the guard's layer, the area; 0 and 0 for no row. */
 uint32_t overlay_row(uint32_t k, const uint32_t sizes[6], const int32_t *cells, size_t cells_length,

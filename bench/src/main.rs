@@ -89,10 +89,10 @@ fn bench(name: &str, plan: &Plan) {
     tell(&name, "order", ours, rust);
 
     let (ours, rust) = both(
-        || { black_box(ffi::is_order(black_box(cells), &order)); },
-        || { black_box(hand::is_order(black_box(cells), &order)); },
+        || { black_box(ffi::order_cause(shape, black_box(cells), &order)); },
+        || { black_box(hand::cause(shape, black_box(cells), &order)); },
     );
-    tell(&name, "is_order", ours, rust);
+    tell(&name, "checks", ours, rust);
 
     let (mut text, mut copy) = (vec![0; 200_000], vec![0; 200_000]);
     let size = Library.write(shape, cells, &mut text).length;

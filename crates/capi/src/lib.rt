@@ -18,17 +18,16 @@ use pager::run_all;
 use plan::Shape;
 use plan::plan_cause;
 use rows::row;
-use sweep::is_order;
 use sweep::make_order;
+use sweep::order_cause;
 use text::read;
 use text::write;
 ghost use mathlib.Core.Path.{_≡_};
 ghost use lib.ListN.{length};
-ghost use Rattle.lists.specs.Lists.{same};
 ghost use Rattle.plan.specs.Plan.{planCause};
-ghost use Rattle.sweep.specs.Sweep.{sweepOrder, orderCause, orderAfter};
-ghost use Rattle.rows.specs.RowCall.{rowCall};
-ghost use Rattle.paging.specs.Calls.{freshCall, pageCause, pageCall, pageTable, runCall, runTable};
+ghost use Rattle.sweep.specs.Sweep.{orderCause, makeCause, orderAfter};
+ghost use Rattle.rows.specs.RowCall.{rowCall, rowValues};
+ghost use Rattle.paging.specs.Calls.{freshCall, pageCause, pageCall, pageTable, runCall, runTable, runValues};
 ghost use Rattle.text.specs.Reader.{readCause, readAnswer, cellsAfter};
 ghost use Rattle.text.specs.Writer.{writeCause, writeLength, bufferAfter};
 ghost use Rattle.cells.specs.Cells.{shapeOf, cursorCells, cursorIn, pageCells, cursorAfter, runCells, rowCells};
@@ -50,19 +49,20 @@ pub extern "C" fn overlay_make_order(
     cells: &[i32],
     order: &mut [u32],
 ) -> u32
-    ensures number { λ r. ⌜ r ≡ orderCause (shapeOf k (now (sizes .entry))) (now (cells .entry)) (now (order .entry)) ⌝ }
+    ensures number { λ r. ⌜ r ≡ makeCause (shapeOf k (now (sizes .entry))) (now (cells .entry)) (now (order .entry)) ⌝ }
     ensures buffer { λ _. ⌜ now (order .exit) ≡ orderAfter (shapeOf k (now (sizes .entry))) (now (cells .entry)) (now (order .entry)) ⌝ }
 {
     let six = *sizes;
     order_number(make_order(Shape { k, sizes: six }, cells, order))
 }
 
-// Whether an order buffer holds the sweep order of the cells.
+// The first of the causes 1 to 5 that applies to a plan and an order.
 #[no_mangle]
-pub extern "C" fn overlay_is_order(cells: &[i32], order: &[u32]) -> bool
-    ensures { λ r. ⌜ r ≡ same (now (order .entry)) (sweepOrder (now (cells .entry))) ⌝ }
+pub extern "C" fn overlay_order_cause(k: u32, sizes: &[u32; 6], cells: &[i32], order: &[u32]) -> u32
+    ensures { λ r. ⌜ r ≡ orderCause (shapeOf k (now (sizes .entry))) (now (cells .entry)) (now (order .entry)) ⌝ }
 {
-    is_order(cells, order)
+    let six = *sizes;
+    order_cause(Shape { k, sizes: six }, cells, order)
 }
 
 // What the lent places name in the table of a plan. The answer's cells: the guard's layer, the area.
@@ -74,8 +74,8 @@ pub extern "C" fn overlay_row(
     places: &[u32],
     answer: &mut [u64; 2],
 ) -> u32
-    ensures number { λ r. ⌜ r ≡ rowCall (shapeOf k (now (sizes .entry))) (now (cells .entry)) (now (places .entry)) .number ⌝ }
-    ensures answer { λ _. ⌜ now (answer .exit) ≡ rowCells (rowCall (shapeOf k (now (sizes .entry))) (now (cells .entry)) (now (places .entry))) ⌝ }
+    ensures number { λ r. ⌜ r ≡ rowValues (rowCall (shapeOf k (now (sizes .entry))) (now (cells .entry)) (now (places .entry))) .number ⌝ }
+    ensures answer { λ _. ⌜ now (answer .exit) ≡ rowCells (rowValues (rowCall (shapeOf k (now (sizes .entry))) (now (cells .entry)) (now (places .entry)))) ⌝ }
 {
     let six = *sizes;
     let told = row(Shape { k, sizes: six }, cells, places);
@@ -138,8 +138,8 @@ pub extern "C" fn overlay_run_all(
     table: &mut [u32],
     answer: &mut [u64; 3],
 ) -> u32
-    ensures number { λ r. ⌜ r ≡ runCall (shapeOf k (now (sizes .entry))) (now (cells .entry)) (now (order .entry)) (now (table .entry)) .number ⌝ }
-    ensures answer { λ _. ⌜ now (answer .exit) ≡ runCells (runCall (shapeOf k (now (sizes .entry))) (now (cells .entry)) (now (order .entry)) (now (table .entry))) ⌝ }
+    ensures number { λ r. ⌜ r ≡ runValues (runCall (shapeOf k (now (sizes .entry))) (now (cells .entry)) (now (order .entry)) (now (table .entry))) .number ⌝ }
+    ensures answer { λ _. ⌜ now (answer .exit) ≡ runCells (runValues (runCall (shapeOf k (now (sizes .entry))) (now (cells .entry)) (now (order .entry)) (now (table .entry)))) ⌝ }
     ensures table { λ _. ⌜ now (table .exit) ≡ runTable (shapeOf k (now (sizes .entry))) (now (cells .entry)) (now (order .entry)) (now (table .entry)) ⌝ }
 {
     let six = *sizes;

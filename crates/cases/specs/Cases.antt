@@ -10,10 +10,10 @@ use lib.IntN.{ℤ, pos}
 use lib.ListN.{length}
 use Rattle.lists.specs.Lists.{All}
 use Rattle.plan.specs.declared.Shape.{Shape}
-use Rattle.plan.specs.Plan.{planCause}
+use Rattle.plan.specs.Plan.{sizesOf, planCause}
 use Rattle.sweep.specs.Sweep.{sweepOrder}
 use Rattle.join.specs.Table.{tableOf}
-use Rattle.rows.specs.RowCall.{rowCall}
+use Rattle.rows.specs.RowCall.{rowCall, rowValues}
 use Rattle.walk.specs.Walk.{walkOf}
 use Rattle.paging.specs.declared.Cursor.{Cursor}
 use Rattle.paging.specs.declared.Stop.{Stop}
@@ -58,7 +58,7 @@ pub data Case : Type 0 where
 
 -- what the row call tells of a row
 abbrev pub told : Shape → List ℤ → List ℕ → Told
-told s cells row = let v = rowCall s cells row in record { layer = v .layer; places = row; area = v .area }
+told s cells row = let v = rowValues (rowCall s cells row) in record { layer = v .layer; places = row; area = v .area }
 
 -- each turn goes on with the cursor that the turn before returned
 abbrev pub Turns : Shape → List ℤ → Cursor → List Turn → Type 0
@@ -69,7 +69,7 @@ Turns s cells c (t ∷ ts) =
 
 abbrev pub Holds : Case → Type 0
 Holds (Caused s cells cause) = planCause s cells ≡ cause
-Holds (Listed s cells rows probes) = (planCause s cells ≡ 0) × (map (told s cells) (tableOf s cells) ≡ rows) × (length (walkOf s cells) ≡ probes)
+Holds (Listed s cells rows probes) = (planCause s cells ≡ 0) × (map (told s cells) (tableOf (sizesOf s) cells) ≡ rows) × (length (walkOf (sizesOf s) cells) ≡ probes)
 Holds (Fresh s cells c) = freshCall s cells (sweepOrder cells) ≡ record { number = 0; cursor = c }
 Holds (Read t cells r after) = (readAnswer (length cells) t ≡ r) × (cellsAfter t cells ≡ after)
 Holds (Paged s cells ts) = Turns s cells (freshCall s cells (sweepOrder cells) .cursor) ts

@@ -7,10 +7,15 @@ use lib.ListN.{getD}
 use mir.Val.{boolByte}
 use borrow.Author.Tests.{le-leb, lt-leb}
 use Rattle.plan.specs.Causes.{onCause}
+use Rattle.totals.specs.declared.Total.{Total}
+use Rattle.totals.specs.Totals.{valueOf}
+use Rattle.totals.proofs.Totals.{value-total}
+use Rattle.paging.specs.declared.Run.{Run}
+use Rattle.paging.specs.declared.Run.the-variants.{Refused, Done}
 use Rattle.paging.specs.declared.Cursor.{Cursor}
 use Rattle.paging.specs.declared.Page.{Page}
-use Rattle.paging.specs.Calls.{stopNumber}
-use Rattle.cells.specs.Cells.{cursorCells, noCursor, plainCursor, cursorIn, cursorAfter}
+use Rattle.paging.specs.Calls.{stopNumber, runValues}
+use Rattle.cells.specs.Cells.{cursorCells, noCursor, plainCursor, cursorIn, cursorAfter, runCells}
 
 -- a flag as a number
 as-number : (t : Bool) → boolByte t ≡ cond t 1 0
@@ -40,3 +45,12 @@ after-refused given p n told some = choice (stopNumber (p .stop)) (cursorCells (
 -- an accepted page leaves the cursor due next
 pub after-due : (given : List ℕ) (p : Page) (n : ℕ) → n ≡ stopNumber (p .stop) → n ≡ 0 → cursorCells (p .cursor) ≡ cursorAfter given p
 after-due given p n told none = sym (ap (λ m. onCause m (cursorCells (p .cursor)) (λ i. given)) (sym told ∙ none))
+
+-- ---- whole runs
+-- a refusal has cells of 0
+pub run-none : {r : Run} {cause : ℕ} → Refused cause ≡ r → 0 ∷ 0 ∷ 0 ∷ [] ≡ runCells (runValues r)
+run-none e = ap (λ (n : ℕ). 0 ∷ 0 ∷ n ∷ []) (sym (value-total 0)) ∙ ap (λ (a : Run). runCells (runValues a)) e
+
+-- an acceptance those of its values
+pub run-some : {r : Run} {rows probes : ℕ} {area : Total} (v : ℕ) → v ≡ valueOf area → Done rows probes area ≡ r → rows ∷ probes ∷ v ∷ [] ≡ runCells (runValues r)
+run-some {rows = rows} {probes = probes} v q e = ap (λ (n : ℕ). rows ∷ probes ∷ n ∷ []) q ∙ ap (λ (a : Run). runCells (runValues a)) e

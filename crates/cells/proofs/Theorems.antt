@@ -11,15 +11,18 @@ use Rattle.lists.proofs.Padding.{padded-long}
 use Rattle.geometry.specs.declared.Rect.{Rect}
 use Rattle.plan.specs.declared.Shape.{Shape}
 use Rattle.plan.specs.Causes.{onCause}
+use Rattle.plan.specs.Plan.{sizesOf}
+use Rattle.sweep.specs.Sweep.{orderCause}
 use Rattle.search.specs.Traversal.{Probe}
-use Rattle.search.specs.Paging.{Halt}
 use Rattle.search.specs.Paging as Paging
-use Rattle.walk.specs.Walk.{walkOf}
 use Rattle.paging.specs.declared.Cursor.{Cursor}
 use Rattle.paging.specs.declared.Fresh.{Fresh}
 use Rattle.paging.specs.declared.Page.{Page}
 use Rattle.paging.specs.Cursors.{dueCursor, endedCursor, sameCursor, findIn, resume}
-use Rattle.paging.specs.Calls.{freshCause, freshCall, stopOf, stopNumber, paged, pageOf, refusedPage, pageCause, pageCall}
+use Rattle.paging.specs.Calls.{freshCall, stopNumber, refusedPage, pageCause, pageCall}
+use Rattle.paging.specs.Overlays.{overlay}
+use Rattle.paging.specs.Pages.{paged, pageOf}
+use Rattle.paging.proofs.Causes.{stop-none}
 use Rattle.cells.specs.Cells.{cursorCells, noCursor, cursorIn, cursorAfter}
 use Rattle.cells.specs.Theorems.{CursorsInCells}
 use Rattle.cells.proofs.Cells.{in-none}
@@ -43,23 +46,17 @@ back : (c : Cursor) → length (c .chosen) ≡ 5 → cursorIn (cursorCells c) �
 back c h = back-at (c .ended) (c .layer) (c .place) (c .filled) (c .chosen) (c .next) h
 
 -- the cursor of what is due has five chosen places
-due-five : (s : Shape) (w : List (Probe Rect)) → length (dueCursor s w .chosen) ≡ 5
-due-five s [] = refl
-due-five s (t ∷ w) = padded-long 5 (take (length (t .path) - 1) (t .path))
+due-five : (ns : List ℕ) (w : List (Probe Rect)) → length (dueCursor ns w .chosen) ≡ 5
+due-five ns [] = refl
+due-five ns (t ∷ w) = padded-long 5 (take (length (t .path) - 1) (t .path))
 
 first : (s : Shape) (cells : List ℤ) (order : List ℕ) → cursorIn (cursorCells (freshCall s cells order .cursor)) ≡ freshCall s cells order .cursor
 unfolding freshCall
-first s cells order = go (freshCause s cells order)
+first s cells order = go (orderCause s cells order)
   where
-    go : (n : ℕ) → let f = onCause {A = Fresh} n (record { number = 0; cursor = dueCursor s (walkOf s cells) }) (λ m. record { number = m; cursor = endedCursor }) in cursorIn (cursorCells (f .cursor)) ≡ f .cursor
-    go zero = back (dueCursor s (walkOf s cells)) (due-five s (walkOf s cells))
+    go : (n : ℕ) → let f = onCause {A = Fresh} n (record { number = 0; cursor = dueCursor (sizesOf s) (overlay s cells .walk) }) (λ m. record { number = m; cursor = endedCursor }) in cursorIn (cursorCells (f .cursor)) ≡ f .cursor
+    go zero = back (dueCursor (sizesOf s) (overlay s cells .walk)) (due-five (sizesOf s) (overlay s cells .walk))
     go (suc n) = refl
-
--- an accepted page has no number
-accepted : (h : Halt) → stopNumber (stopOf h) ≡ 0
-accepted Paging.Ended = refl
-accepted Paging.Full = refl
-accepted Paging.Spent = refl
 
 chosen-next : (given : List ℕ) (n : ℕ) (p : Page) → stopNumber (p .stop) ≡ 0 → cursorIn (cursorCells (p .cursor)) ≡ p .cursor → let q = onCause n p (refusedPage (cursorIn given)) in cursorIn (cursorAfter given q) ≡ q .cursor
 chosen-next given zero p e b = ap (λ (m : ℕ). cursorIn (onCause m (cursorCells (p .cursor)) (λ i. given))) e ∙ b
@@ -68,20 +65,20 @@ chosen-next given (suc n) p e b = refl
 next : (s : Shape) (cells : List ℤ) (order given : List ℕ) (budget : ℕ) (table : List ℕ) → let p = pageCall s cells order (cursorIn given) budget table in cursorIn (cursorAfter given p) ≡ p .cursor
 unfolding pageCall
 next s cells order given budget table =
-    let p = paged s cells (cursorIn given) budget table in
-    chosen-next given (pageCause s cells order (cursorIn given)) (pageOf s p) (accepted (p .halt)) (back (dueCursor s (p .rest)) (due-five s (p .rest)))
+    let p = paged (overlay s cells) (cursorIn given) budget table in
+    chosen-next given (pageCause s cells order (cursorIn given)) (pageOf (overlay s cells) p) (stop-none (p .halt)) (back (dueCursor (sizesOf s) (p .rest)) (due-five (sizesOf s) (p .rest)))
 
 -- no probe has the cursor that stands for none
-not-found : (s : Shape) (w : List (Probe Rect)) → findIn s noCursor w ≡ none
+not-found : (ns : List ℕ) (w : List (Probe Rect)) → findIn ns noCursor w ≡ none
 unfolding sameCursor
-not-found s [] = refl
-not-found s (t ∷ w) = not-found s w
+not-found ns [] = refl
+not-found ns (t ∷ w) = not-found ns w
 
-no-resume : (s : Shape) (cells : List ℤ) → resume s cells noCursor ≡ none
+no-resume : (s : Shape) (cells : List ℤ) → resume (overlay s cells) noCursor ≡ none
 unfolding resume sameCursor
-no-resume s cells = not-found s (walkOf s cells)
+no-resume s cells = not-found (sizesOf s) (overlay s cells .walk)
 
-refused : (s : Shape) (cells : List ℤ) (order given : List ℕ) → 1 < getD given 0 0 → freshCause s cells order ≡ 0 → pageCause s cells order (cursorIn given) ≡ 6
+refused : (s : Shape) (cells : List ℤ) (order given : List ℕ) → 1 < getD given 0 0 → orderCause s cells order ≡ 0 → pageCause s cells order (cursorIn given) ≡ 6
 unfolding pageCause
 refused s cells order given high sound = rw (← in-none given high) (rw sound (rw (no-resume s cells) refl))
 

@@ -1,9 +1,10 @@
--- Cursors and answers as cells: how the C interface lays them out. The number of a cause is returned; all cells of a refused answer are 0.
+-- Cursors and answers as cells: how the C interface lays them out. The number of a cause is returned; the cells of a refused answer are 0, a refused fresh cursor says Ended, and a refused page leaves the cursor.
 use mathlib.Core.List.{List, [], _∷_}
 use mathlib.Core.Bool.{true, cond}
 use Prim.Native.Nat.{ℕ}
 use lib.Dec.{eqb, leb}
 use lib.ListN.{getD}
+use Rattle.totals.specs.Totals.{valueOf}
 use Rattle.plan.specs.declared.Shape.{Shape}
 use Rattle.plan.specs.Causes.{onCause}
 use Rattle.rows.specs.RowCall.{RowValues}
@@ -43,7 +44,7 @@ stopCode Spent = 3
 stopCode (Refused cause) = 0
 
 abbrev pub pageCells : Page → List ℕ
-pageCells p = stopCode (p .stop) ∷ p .rows ∷ p .probes ∷ p .area ∷ []
+pageCells p = stopCode (p .stop) ∷ p .rows ∷ p .probes ∷ valueOf (p .area) ∷ []
 
 -- the cursor's cells afterwards: the cursor due next, or after a refusal what they were
 abbrev pub cursorAfter : List ℕ → Page → List ℕ
@@ -51,7 +52,7 @@ cursorAfter given p = onCause (stopNumber (p .stop)) (cursorCells (p .cursor)) (
 
 -- ---- whole runs: rows, probes, area
 abbrev pub runCells : RunValues → List ℕ
-runCells v = v .rows ∷ v .probes ∷ v .area ∷ []
+runCells v = v .rows ∷ v .probes ∷ valueOf (v .area) ∷ []
 
 -- ---- rows: the guard's layer, area
 abbrev pub rowCells : RowValues → List ℕ

@@ -6,6 +6,7 @@ use paging::Stop;
 use rows::RowAnswer;
 use sweep::OrderAnswer;
 use text::Writing;
+use totals::value;
 ghost use mathlib.Core.Path.{_≡_};
 ghost use Rattle.sweep.specs.Sweep.{orderNumber};
 ghost use Rattle.rows.specs.RowCall.{rowValues};
@@ -138,11 +139,12 @@ pub fn page_cells(page: Page) -> [u64; 4]
     ensures { λ r. ⌜ r ≡ pageCells page ⌝ }
 {
     let stop = page.stop;
+    let area = page.area;
     [
         stop_code(stop),
         page.rows as u64,
         page.probes as u64,
-        page.area,
+        value(area),
     ]
 }
 
@@ -174,6 +176,6 @@ pub fn run_cells(run: Run) -> [u64; 3]
 {
     match run {
         Run::Refused(_) => [0, 0, 0],
-        Run::Done(rows, probes, area) => [rows as u64, probes, area],
+        Run::Done(rows, probes, area) => [rows as u64, probes, value(area)],
     }
 }

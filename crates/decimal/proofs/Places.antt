@@ -12,7 +12,7 @@ use lib.IntN.{ℤ, pos}
 use lib.ListN.{length, getD, drop, length-drop, drop-of-length-le}
 use lib.Seq.{drop-cons}
 use Rattle.lists.proofs.Tests.{clash, total}
-use Rattle.decimal.specs.Numerals.{mostDigits, mostMore}
+use Rattle.decimal.specs.Numerals.{mostDigits}
 use Rattle.decimal.specs.declared.Digits.{Digits}
 use Rattle.decimal.specs.declared.Kind.{Kind}
 use Rattle.decimal.specs.declared.Kind.the-variants.{Minus, Zero, Digit, Tab, End, Other}
@@ -47,10 +47,10 @@ next-digit s i e = go (total (length s) i)
 
 -- f digits more may come behind those read so far, and what they give is what all of them give from the start
 pub record Going (s : List ℕ) (at first value i f : ℕ) : Type 0 where
-  pub few : f ≤ mostMore
+  pub few : f ≤ (mostDigits - 1)
   pub inside : i ≤ length s
   pub small : value < 10 ^ (mostDigits - f)
-  pub same : more f value (drop i s) ≡ more mostMore first (drop at s)
+  pub same : more f value (drop i s) ≡ more (mostDigits - 1) first (drop at s)
 
 more-one : (s : List ℕ) (value i f : ℕ) → 0 < f → Next s i → more f value (drop i s) ≡ more (f - 1) (value * 10 + (getD s i 0 - 48)) (drop (i + 1) s)
 more-one s value i zero h n = absurd (omega arith)

@@ -13,7 +13,7 @@ use borrow.Author.Tests.{ltb-true, lt-ltb}
 use Rattle.lists.proofs.Tests.{total}
 use Rattle.decimal.specs.declared.Kind.{Kind}
 use Rattle.decimal.specs.declared.Kind.the-variants.{Minus, Zero, Digit, Tab, End, Other}
-use Rattle.decimal.specs.Numerals.{digits, size, decimal, numeral, mostDigits, mostMore, short}
+use Rattle.decimal.specs.Numerals.{digits, size, decimal, numeral, mostDigits, short}
 use Rattle.decimal.specs.Bytes.{kindOf, isDigit}
 use Rattle.decimal.specs.Reading.{Reading, more, afterMinus, magnitude, numberAt, number}
 use Rattle.decimal.specs.Places.{digitNext}
@@ -62,10 +62,10 @@ more-spelled (suc f) v (b ∷ t) = go (isDigit (kindOf b)) refl (more-spelled f 
 
 -- ---- a number from 1 on, and read
 
-few-more : (c n : ℕ) → Sized c n → n < 10 ^ mostDigits → c ≤ mostMore
-few-more c n s h = go (total c mostMore)
+few-more : (c n : ℕ) → Sized c n → n < 10 ^ mostDigits → c ≤ (mostDigits - 1)
+few-more c n s h = go (total c (mostDigits - 1))
   where
-    go : (c ≤ mostMore) ⊎ (mostMore < c) → c ≤ mostMore
+    go : (c ≤ (mostDigits - 1)) ⊎ ((mostDigits - 1) < c) → c ≤ (mostDigits - 1)
     go (inl l) = l
     go (inr l) = absurd (omega (arith, powers mostDigits c l, s .least, h))
 
@@ -76,7 +76,7 @@ pub record Front (n : ℕ) (r : List ℕ) : Type 0 where
   pub text : decimal n ++ r ≡ first ∷ others
   pub low : 49 ≤ first
   pub high : first ≤ 57
-  pub reads : more mostMore (first - 48) others ≡ (n, r)
+  pub reads : more (mostDigits - 1) (first - 48) others ≡ (n, r)
 
 pub front : (n : ℕ) (r : List ℕ) → 0 < n → n < 10 ^ mostDigits → Stops r → Front n r
 front n r h k st =
@@ -91,7 +91,7 @@ front n r h k st =
       text = ap (λ (l : List ℕ). l ++ r) (sym (digits-decimal c n (s .1) (s .3)));
       low = omega arith;
       high = omega arith;
-      reads = rw x (more-digits mostMore c n r (few-more c n (s .3) k) st);
+      reads = rw x (more-digits (mostDigits - 1) c n r (few-more c n (s .3) k) st);
     }
 
 pub record Fronted (b : ℕ) (t : List ℕ) (n : ℕ) (r : List ℕ) : Type 0 where
@@ -99,17 +99,17 @@ pub record Fronted (b : ℕ) (t : List ℕ) (n : ℕ) (r : List ℕ) : Type 0 wh
   pub least : 0 < n
   pub below : n < 10 ^ mostDigits
 
-pub fronted : (b : ℕ) (t : List ℕ) → 49 ≤ b → b ≤ 57 → Fronted b t (more mostMore (b - 48) t .0) (more mostMore (b - 48) t .1)
+pub fronted : (b : ℕ) (t : List ℕ) → 49 ≤ b → b ≤ 57 → Fronted b t (more (mostDigits - 1) (b - 48) t .0) (more (mostDigits - 1) (b - 48) t .1)
 fronted b t h k =
-    let m : Spelled (b - 48) (more mostMore (b - 48) t .0) t (more mostMore (b - 48) t .1) mostMore = more-spelled mostMore (b - 48) t in
-    let n : ℕ = more mostMore (b - 48) t .0 in
-    let r : List ℕ = more mostMore (b - 48) t .1 in
+    let m : Spelled (b - 48) (more (mostDigits - 1) (b - 48) t .0) t (more (mostDigits - 1) (b - 48) t .1) (mostDigits - 1) = more-spelled (mostDigits - 1) (b - 48) t in
+    let n : ℕ = more (mostDigits - 1) (b - 48) t .0 in
+    let r : List ℕ = more (mostDigits - 1) (b - 48) t .1 in
     let c : ℕ = m .count in
     let s : Sized c n = front-sized c n (omega (arith, m .front)) (omega (arith, m .front)) in
     let x : b ≡ 48 + n / 10 ^ c % 10 = omega (arith, m .front) in
     record {
       text = ap₂ _∷_ x (m .text) ∙ ap (λ (l : List ℕ). l ++ r) (digits-decimal c n (omega (arith, m .few)) s);
-      least = omega (arith, m .front, div-le-self (more mostMore (b - 48) t .0) (10 ^ c));
+      least = omega (arith, m .front, div-le-self (more (mostDigits - 1) (b - 48) t .0) (10 ^ c));
       below = omega (arith, s .below, powers (suc c) mostDigits (omega (arith, m .few)));
     }
 
@@ -151,9 +151,9 @@ after-minus : (k : Kind) (b : ℕ) (t : List ℕ) (z : ℤ) (r : List ℕ) → I
 after-minus Minus b t z r h e = never e
 after-minus Zero b t z r h e = never e
 after-minus Digit b t z r h e =
-    let f : Fronted b t (more mostMore (b - 48) t .0) (more mostMore (b - 48) t .1) = fronted b t (h .0) (h .1) in
-    let n : ℕ = more mostMore (b - 48) t .0 in
-    same-pair (Numbered (45 ∷ b ∷ t)) (negℤ (pos n)) z (more mostMore (b - 48) t .1) r e
+    let f : Fronted b t (more (mostDigits - 1) (b - 48) t .0) (more (mostDigits - 1) (b - 48) t .1) = fronted b t (h .0) (h .1) in
+    let n : ℕ = more (mostDigits - 1) (b - 48) t .0 in
+    same-pair (Numbered (45 ∷ b ∷ t)) (negℤ (pos n)) z (more (mostDigits - 1) (b - 48) t .1) r e
     (record { text = rw (negative-numeral n (f .least)) (ap (λ (l : List ℕ). 45 ∷ l) (f .text)); few = negative-short n (f .below) })
 after-minus Tab b t z r h e = never e
 after-minus End b t z r h e = never e
@@ -169,9 +169,9 @@ number-at Minus b t z r h e = rw h (behind-minus t z r e)
 number-at Zero b t z r h e =
     same-pair (Numbered (b ∷ t)) (pos 0) z t r e (record { text = rw h (unfold decimal size in refl); few = refl })
 number-at Digit b t z r h e =
-    let f : Fronted b t (more mostMore (b - 48) t .0) (more mostMore (b - 48) t .1) = fronted b t (h .0) (h .1) in
-    same-pair (Numbered (b ∷ t)) (pos (more mostMore (b - 48) t .0)) z (more mostMore (b - 48) t .1) r e
-    (record { text = f .text; few = lt-ltb (more mostMore (b - 48) t .0) (10 ^ mostDigits) (f .below) })
+    let f : Fronted b t (more (mostDigits - 1) (b - 48) t .0) (more (mostDigits - 1) (b - 48) t .1) = fronted b t (h .0) (h .1) in
+    same-pair (Numbered (b ∷ t)) (pos (more (mostDigits - 1) (b - 48) t .0)) z (more (mostDigits - 1) (b - 48) t .1) r e
+    (record { text = f .text; few = lt-ltb (more (mostDigits - 1) (b - 48) t .0) (10 ^ mostDigits) (f .below) })
 number-at Tab b t z r h e = never e
 number-at End b t z r h e = never e
 number-at Other b t z r h e = never e

@@ -1,7 +1,7 @@
 -- Numbers spelled in base ten (01, "The plan text").
 use mathlib.Core.List.{List, [], _∷_}
 use mathlib.Core.Bool.{Bool, cond}
-use Prim.Native.Nat.{ℕ, zero, suc, _+_, _-_, _/_, _%_, _^_}
+use Prim.Native.Nat.{ℕ, zero, suc, _+_, _/_, _%_, _^_}
 use lib.Dec.{leb, ltb}
 use lib.IntN.{ℤ, pos, negsuc, natAbs}
 
@@ -27,10 +27,6 @@ numeral (negsuc n) = 45 ∷ decimal (suc n)
 -- the most digits of a number: a first one, and "up to six digits more" (01)
 abbrev pub mostDigits : ℕ
 mostDigits = 7
-
--- the most digits behind the first
-abbrev pub mostMore : ℕ
-mostMore = mostDigits - 1
 
 -- a number of no more digits than a text may have
 abbrev pub short : ℤ → Bool

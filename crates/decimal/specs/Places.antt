@@ -10,7 +10,7 @@ use lib.ListN.{length, drop}
 use Rattle.decimal.specs.declared.Number.{Number}
 use Rattle.decimal.specs.declared.Number.the-variants.{Value, Bad}
 use Rattle.decimal.specs.declared.Digits.{Digits}
-use Rattle.decimal.specs.Numerals.{mostDigits, mostMore}
+use Rattle.decimal.specs.Numerals.{mostDigits}
 use Rattle.decimal.specs.Bytes.{kindOf, isDigit}
 use Rattle.decimal.specs.Reading.{Reading, more, magnitude, number}
 
@@ -52,8 +52,8 @@ abbrev pub zeroAt : Bool → ℕ → Number
 zeroAt true next = Bad
 zeroAt false next = Value (pos 0) next
 
--- `value` and `next` are what up to `mostMore` digits more give behind `first`, from `at` on
+-- `value` and `next` are what up to `mostDigits - 1` digits more give behind `first`, from `at` on
 pub record MoreFrom (s : List ℕ) (at first : ℕ) (r : Digits) : Type 0 where
-  pub reads : more mostMore first (drop at s) ≡ (r .value, drop (r .next) s)
+  pub reads : more (mostDigits - 1) first (drop at s) ≡ (r .value, drop (r .next) s)
   pub inside : r .next ≤ length s
   pub small : r .value < 10 ^ mostDigits

@@ -6,7 +6,7 @@ use Prim.Native.Nat.{ℕ, zero, suc, _+_, _-_, _*_}
 use lib.IntN.{ℤ, pos, negℤ}
 use Rattle.decimal.specs.declared.Kind.{Kind}
 use Rattle.decimal.specs.declared.Kind.the-variants.{Minus, Zero, Digit, Tab, End, Other}
-use Rattle.decimal.specs.Numerals.{mostMore}
+use Rattle.decimal.specs.Numerals.{mostDigits}
 use Rattle.decimal.specs.Bytes.{kindOf, isDigit}
 
 -- what was read, and the bytes behind it
@@ -31,12 +31,12 @@ negated p = some (negℤ (pos (p .0)), p .1)
 abbrev pub afterMinus : Kind → ℕ → List ℕ → Reading ℤ
 afterMinus Minus b t = none
 afterMinus Zero b t = none
-afterMinus Digit b t = negated (more mostMore (b - 48) t)
+afterMinus Digit b t = negated (more (mostDigits - 1) (b - 48) t)
 afterMinus Tab b t = none
 afterMinus End b t = none
 afterMinus Other b t = none
 
--- behind a minus: a digit 1 to 9 and up to `mostMore` more
+-- behind a minus: a digit 1 to 9 and up to `mostDigits - 1` more
 abbrev pub magnitude : List ℕ → Reading ℤ
 magnitude [] = none
 magnitude (b ∷ t) = afterMinus (kindOf b) b t
@@ -45,7 +45,7 @@ magnitude (b ∷ t) = afterMinus (kindOf b) b t
 abbrev pub numberAt : Kind → ℕ → List ℕ → Reading ℤ
 numberAt Minus b t = magnitude t
 numberAt Zero b t = some (pos 0, t)
-numberAt Digit b t = plain (more mostMore (b - 48) t)
+numberAt Digit b t = plain (more (mostDigits - 1) (b - 48) t)
 numberAt Tab b t = none
 numberAt End b t = none
 numberAt Other b t = none

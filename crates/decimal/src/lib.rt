@@ -14,7 +14,7 @@ ghost use Rattle.decimal.specs.Bytes.{kindOf, isDigit};
 ghost use Rattle.decimal.specs.Places.{digitNext, minusNext, MoreFrom, sign, zeroAt, digitsFrom, numberFrom};
 ghost use Rattle.decimal.specs.Stores.{Put};
 
-// The most digits of a number behind its first: `mostMore`.
+// The most digits of a number behind its first: `mostDigits - 1`.
 const MORE: usize = 6;
 
 // What a byte of a number is, by its range.

@@ -136,7 +136,7 @@ add-law (pos a) (negsuc b) = omega (arith, subℕ-law a (suc b))
 add-law (negsuc a) (pos b) = omega (arith, subℕ-law b (suc a))
 add-law (negsuc a) (negsuc b) = omega arith
 
-neg-law : (a : ℤ) → (up (negℤ a) ≡ dn a) × (dn (negℤ a) ≡ up a)
+pub neg-law : (a : ℤ) → (up (negℤ a) ≡ dn a) × (dn (negℤ a) ≡ up a)
 neg-law (pos zero) = (refl, refl)
 neg-law (pos (suc k)) = (refl, refl)
 neg-law (negsuc k) = (refl, refl)

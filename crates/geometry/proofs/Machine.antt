@@ -11,7 +11,7 @@ use mir.Val.{SFits, Fits, toZ, ofZ}
 use mir.Facts.{toZ-ofZ}
 use Rattle.geometry.specs.declared.Rect.{Rect}
 use Rattle.geometry.specs.declared.Meeting.the-variants.{Apart, Common}
-use Rattle.geometry.specs.Rectangles.{common, nonempty, meets, meeting, inReach}
+use Rattle.geometry.specs.Rectangles.{common, nonempty, meets, meeting, reach, between}
 use Rattle.geometry.proofs.Integers.{zarith, sub-law, one-side, size-law, nonNeg-law, →sfits, sfits→}
 
 -- ---- what the machine reads back, and a record by its fields
@@ -52,8 +52,8 @@ module _ (a b c : Rect) (t : Bool) (made : c ≡ common a b) (told : t ≡ nonem
   unfolding meeting meets
   meet-else e = cc
 
-pub read-reach : {z : ℤ} {v : Bool} → SFits w32 z → v ≡ inReach (toZ w32 (ofZ w32 z)) → v ≡ inReach z
-read-reach f e = e ∙ ap inReach (toZ-ofZ f)
+pub read-reach : {z : ℤ} {v : Bool} → SFits w32 z → v ≡ between reach (toZ w32 (ofZ w32 z)) → v ≡ between reach z
+read-reach f e = e ∙ ap (between reach) (toZ-ofZ f)
 
 -- ---- differences of 32-bit numbers, taken in 64 bits
 module _ {a b : ℤ} (f : SFits w32 a) (g : SFits w32 b) where

@@ -10,9 +10,9 @@ use Rattle.lists.proofs.Tests.{both, and-true}
 use Rattle.geometry.specs.declared.Rect.{Rect}
 use Rattle.geometry.specs.declared.Meeting.{Meeting}
 use Rattle.geometry.specs.declared.Meeting.the-variants.{Apart, Common}
-use Rattle.geometry.specs.Rectangles.{In, maxZ, minZ, common, nonempty, meets, meeting, reach, inReach, inRange, areaOf}
-use Rattle.geometry.specs.Theorems.{Coordinate, Ranged}
-use Rattle.geometry.proofs.Integers.{up, dn, zarith, one-side, size-law, add-law, sub-law}
+use Rattle.geometry.specs.Rectangles.{In, maxZ, minZ, common, nonempty, meets, meeting, reach, extent, between, held, inRange, inExtent, areaOf, mostArea}
+use Rattle.geometry.specs.Theorems.{Ranged}
+use Rattle.geometry.proofs.Integers.{up, dn, zarith, neg-law, one-side, size-law, add-law, sub-law}
 
 -- ---- maximum and minimum, as omega reads them
 pub max-law : (a b : ℤ) → up (maxZ a b) + dn a + dn b ≡ max (up a + dn b) (up b + dn a) + dn (maxZ a b)
@@ -112,55 +112,83 @@ module _ (a b : Rect) (m : Meeting) (made : m ≡ meeting a b) where
       go false q = refl
 
 -- ---- in range
-reach-is : (z : ℤ) → inReach z ≡ true → Coordinate z
-unfolding inReach
-reach-is z e = let h = both (leZ (negℤ reach) z) (leZ z reach) e in omega zarith
+-- z is from −b to b
+abbrev Between : ℤ → ℤ → Type 0
+Between b z = (negℤ b ≤ℤ z) × (z ≤ℤ b)
 
-is-reach : (z : ℤ) → Coordinate z → inReach z ≡ true
-unfolding inReach
-is-reach z h = and-true (leZ (negℤ reach) z) (leZ z reach) (omega zarith) (omega zarith)
+-- what the test of a rectangle's range tells
+pub record Held (b : ℤ) (r : Rect) : Type 0 where
+  pub left : Between b (r .left)
+  pub bottom : Between b (r .bottom)
+  pub right : Between b (r .right)
+  pub top : Between b (r .top)
+  pub across : r .left ≤ℤ r .right
+  pub upward : r .bottom ≤ℤ r .top
 
-pub ranged : (r : Rect) → inRange r ≡ true → Ranged r
-unfolding inRange
-ranged r e =
-    let h₄ = both (inReach (r .left) && inReach (r .bottom) && inReach (r .right) && inReach (r .top)) (nonempty r) e in
-    let h₃ = both (inReach (r .left) && inReach (r .bottom) && inReach (r .right)) (inReach (r .top)) (h₄ .0) in
-    let h₂ = both (inReach (r .left) && inReach (r .bottom)) (inReach (r .right)) (h₃ .0) in
-    let h₁ = both (inReach (r .left)) (inReach (r .bottom)) (h₂ .0) in
+pub between-is : (b z : ℤ) → between b z ≡ true → Between b z
+unfolding between
+between-is b z e = let h = both (leZ (negℤ b) z) (leZ z b) e in omega zarith
+
+pub is-between : (b z : ℤ) → Between b z → between b z ≡ true
+unfolding between
+is-between b z h = and-true (leZ (negℤ b) z) (leZ z b) (omega zarith) (omega zarith)
+
+pub held-is : (b : ℤ) (r : Rect) → held b r ≡ true → Held b r
+unfolding held
+held-is b r e =
+    let h₄ = both (between b (r .left) && between b (r .bottom) && between b (r .right) && between b (r .top)) (nonempty r) e in
+    let h₃ = both (between b (r .left) && between b (r .bottom) && between b (r .right)) (between b (r .top)) (h₄ .0) in
+    let h₂ = both (between b (r .left) && between b (r .bottom)) (between b (r .right)) (h₃ .0) in
+    let h₁ = both (between b (r .left)) (between b (r .bottom)) (h₂ .0) in
     let s = sides r (h₄ .1) in
-    record { left = reach-is _ (h₁ .0); bottom = reach-is _ (h₁ .1); right = reach-is _ (h₂ .1); top = reach-is _ (h₃ .1); across = s .0; upward = s .1 }
+    record { left = between-is b _ (h₁ .0); bottom = between-is b _ (h₁ .1); right = between-is b _ (h₂ .1); top = between-is b _ (h₃ .1); across = s .0; upward = s .1 }
 
-pub in-range : (r : Rect) → Ranged r → inRange r ≡ true
-unfolding inRange nonempty
-in-range r h =
-    let w = is-reach (r .left) (h .left) in
-    let x = is-reach (r .bottom) (h .bottom) in
-    let y = is-reach (r .right) (h .right) in
-    let z = is-reach (r .top) (h .top) in
+pub is-held : (b : ℤ) (r : Rect) → Held b r → held b r ≡ true
+unfolding held nonempty
+is-held b r h =
+    let w = is-between b (r .left) (h .left) in
+    let x = is-between b (r .bottom) (h .bottom) in
+    let y = is-between b (r .right) (h .right) in
+    let z = is-between b (r .top) (h .top) in
     rw (w, x, y, z) (and-true (leZ (r .left) (r .right)) (leZ (r .bottom) (r .top)) (omega zarith) (omega zarith))
 
-pub range-nonempty : (r : Rect) → inRange r ≡ true → nonempty r ≡ true
-unfolding inRange
-range-nonempty r e = both (inReach (r .left) && inReach (r .bottom) && inReach (r .right) && inReach (r .top)) (nonempty r) e .1
+pub ranged : (r : Rect) → inRange r ≡ true → Ranged r
+ranged r e = let h = held-is reach r e in record { left = h .left; bottom = h .bottom; right = h .right; top = h .top; across = h .across; upward = h .upward }
+
+pub in-range : (r : Rect) → Ranged r → inRange r ≡ true
+in-range r h = is-held reach r (record { left = h .left; bottom = h .bottom; right = h .right; top = h .top; across = h .across; upward = h .upward })
+
+pub held-nonempty : (b : ℤ) (r : Rect) → held b r ≡ true → nonempty r ≡ true
+unfolding held
+held-nonempty b r e = both (between b (r .left) && between b (r .bottom) && between b (r .right) && between b (r .top)) (nonempty r) e .1
+
+-- the extent holds what the reach does
+wide : (z : ℤ) → Between reach z → Between extent z
+wide z k = omega zarith
+
+pub range-extent : (r : Rect) → inRange r ≡ true → inExtent r ≡ true
+range-extent r e =
+    let h = held-is reach r e in
+    is-held extent r (record { left = wide _ (h .left); bottom = wide _ (h .bottom); right = wide _ (h .right); top = wide _ (h .top); across = h .across; upward = h .upward })
 
 -- what two rectangles in range have in common is in range, if it is anything
-reach-max : (a b : ℤ) → Coordinate a → Coordinate b → Coordinate (maxZ a b)
-reach-max a b p q = omega (zarith, max-law a b)
+between-max : (b x y : ℤ) → Between b x → Between b y → Between b (maxZ x y)
+between-max b x y p q = omega (zarith, max-law x y)
 
-reach-min : (a b : ℤ) → Coordinate a → Coordinate b → Coordinate (minZ a b)
-reach-min a b p q = omega (zarith, min-law a b)
+between-min : (b x y : ℤ) → Between b x → Between b y → Between b (minZ x y)
+between-min b x y p q = omega (zarith, min-law x y)
 
-pub common-range : (c r : Rect) → inRange c ≡ true → inRange r ≡ true → meets c r ≡ true → inRange (common c r) ≡ true
+pub common-held : (b : ℤ) (c r : Rect) → held b c ≡ true → held b r ≡ true → meets c r ≡ true → held b (common c r) ≡ true
 unfolding common meets
-common-range c r p q m =
-    let a = ranged c p in
-    let b = ranged r q in
+common-held b c r p q m =
+    let h = held-is b c p in
+    let k = held-is b r q in
     let s = sides (common c r) m in
-    in-range (common c r) (record { left = reach-max _ _ (a .left) (b .left); bottom = reach-max _ _ (a .bottom) (b .bottom); right = reach-min _ _ (a .right) (b .right); top = reach-min _ _ (a .top) (b .top); across = s .0; upward = s .1 })
+    is-held b (common c r) (record { left = between-max b _ _ (h .left) (k .left); bottom = between-max b _ _ (h .bottom) (k .bottom); right = between-min b _ _ (h .right) (k .right); top = between-min b _ _ (h .top) (k .top); across = s .0; upward = s .1 })
 
 -- ---- a side: b - a, of two coordinates in range and in order
-side-small : (a b : ℤ) → Coordinate a → Coordinate b → a ≤ℤ b → natAbs (b -ℤ a) ≤ 2000000
-side-small a b p q order = omega (zarith, sub-law b a, one-side (b -ℤ a), size-law (b -ℤ a))
+side-small : (n : ℕ) (a b : ℤ) → Between (pos n) a → Between (pos n) b → a ≤ℤ b → natAbs (b -ℤ a) ≤ 2 * n
+side-small n a b p q order = omega (zarith, neg-law (pos n), sub-law b a, one-side (b -ℤ a), size-law (b -ℤ a))
 
 side-exact : (a b : ℤ) (n : ℕ) → b ≡ a +ℤ pos n → natAbs (b -ℤ a) ≡ n
 side-exact a b n e = omega (zarith, add-law a (pos n), sub-law b a, one-side (b -ℤ a), size-law (b -ℤ a))
@@ -169,8 +197,15 @@ pub area-exact : (r : Rect) (w h : ℕ) → r .right ≡ r .left +ℤ pos w → 
 unfolding areaOf
 area-exact r w h p q = ap₂ _*_ (side-exact (r .left) (r .right) w p) (side-exact (r .bottom) (r .top) h q)
 
-pub area-small : (r : Rect) → inRange r ≡ true → areaOf r ≤ 4000000000000
+-- of one whose coordinates are from −n to n
+area-held : (n : ℕ) (r : Rect) → held (pos n) r ≡ true → areaOf r ≤ 2 * n * (2 * n)
 unfolding areaOf
-area-small r e =
-    let k = ranged r e in
-    mul-le-mul (side-small _ _ (k .left) (k .right) (k .across)) (side-small _ _ (k .bottom) (k .top) (k .upward))
+area-held n r e =
+    let h = held-is (pos n) r e in
+    mul-le-mul (side-small n _ _ (h .left) (h .right) (h .across)) (side-small n _ _ (h .bottom) (h .top) (h .upward))
+
+pub range-area : (r : Rect) → inRange r ≡ true → areaOf r ≤ 4000000000000
+range-area r e = area-held 1000000 r e
+
+pub extent-area : (r : Rect) → inExtent r ≡ true → areaOf r ≤ mostArea
+extent-area r e = area-held 1050000 r e

@@ -1,6 +1,6 @@
 -- The promises on common ground hold.
 use Rattle.geometry.specs.Theorems.{CommonGround}
-use Rattle.geometry.proofs.Rectangles.{common-comm, common-assoc, common-same, in-both, in-common, meets-point, point-meets, ranged, in-range, area-exact, area-small}
+use Rattle.geometry.proofs.Rectangles.{common-comm, common-assoc, common-same, in-both, in-common, meets-point, point-meets, ranged, in-range, area-exact, range-area}
 
 pub common-ground : CommonGround
 common-ground = record {
@@ -11,5 +11,5 @@ common-ground = record {
   idempotent = common-same;
   range = λ r. (ranged r, in-range r);
   exact = area-exact;
-  area = area-small;
+  area = range-area;
 }

@@ -38,18 +38,37 @@ meets a b = nonempty (common a b)
 unfoldable pub meeting : Rect → Rect → Meeting
 meeting a b = cond (meets a b) (Common (common a b)) Apart
 
+-- ---- range
 -- 01: "Each coordinate is from −1,000,000 to 1,000,000"
 abbrev pub reach : ℤ
 reach = pos 1000000
 
-unfoldable pub inReach : ℤ → Bool
-inReach z = leZ (negℤ reach) z && leZ z reach
+-- the range that the walk itself needs, no narrower than that of a plan's coordinates
+abbrev pub extent : ℤ
+extent = pos 1050000
 
--- a rectangle that cause 4 lets through: coordinates in range, left ≤ right and bottom ≤ top
-unfoldable pub inRange : Rect → Bool
-inRange r = inReach (r .left) && inReach (r .bottom) && inReach (r .right) && inReach (r .top) && nonempty r
+-- z is from −b to b
+unfoldable pub between : ℤ → ℤ → Bool
+between b z = leZ (negℤ b) z && leZ z b
 
+-- the coordinates are from −b to b, left ≤ right and bottom ≤ top
+unfoldable pub held : ℤ → Rect → Bool
+held b r = between b (r .left) && between b (r .bottom) && between b (r .right) && between b (r .top) && nonempty r
+
+-- a rectangle that cause 4 lets through
+abbrev pub inRange : Rect → Bool
+inRange r = held reach r
+
+-- a rectangle that the walk takes
+abbrev pub inExtent : Rect → Bool
+inExtent r = held extent r
+
+-- ---- area
 -- 01: "width times its height in square millimetres" (specs/Theorems.antt, `exact`). Of a rectangle with its sides the wrong way round, which
 -- no plan holds, it is the product of how far they lie apart
 unfoldable pub areaOf : Rect → ℕ
 areaOf r = natAbs (r .right -ℤ r .left) * natAbs (r .top -ℤ r .bottom)
+
+-- the most that one in the extent has (proofs/Rectangles.antt, `extent-area`)
+abbrev pub mostArea : ℕ
+mostArea = 4410000000000

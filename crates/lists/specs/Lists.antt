@@ -1,6 +1,7 @@
 -- What holds of each element or of each pair of a list, and the parts of lists that definitions above are made of.
 use mathlib.Core.Path.{_≡_}
 use mathlib.Core.List.{List, [], _∷_, _++_, map}
+use mathlib.Core.Option.{Option, none, some}
 use mathlib.Core.Bool.{Bool, true, false, cond, _&&_}
 use Prim.Native.Nat.{ℕ, zero, suc, _+_, _<_}
 use lib.Dec.{eqb}
@@ -74,3 +75,15 @@ same (x ∷ xs) (y ∷ ys) = eqb x y && same xs ys
 pub record Tells (P : Type 0) (t : Bool) : Type 0 where
   pub if-true : t ≡ true → P
   pub if-false : t ≡ false → P → ⊥
+
+-- ---- what may be there
+module _ {A : Type 0} where
+  -- there is one
+  abbrev pub isSome : Option A → Bool
+  isSome none = false
+  isSome (some a) = true
+
+  -- the list, empty where there is none
+  abbrev pub listIn : Option (List A) → List A
+  listIn none = []
+  listIn (some l) = l

@@ -1,63 +1,31 @@
--- One page call: what it answers and leaves in its table, as the search's page of a plan.
-use mathlib.Core.Path.{_≡_, refl, sym, ap, _∙_, subst₂}
+-- One page call on an overlay: what it answers and leaves in its table, as the search's page.
+use mathlib.Core.Path.{_≡_, refl, ap}
 use mathlib.Core.List.{List, map}
 use mathlib.Core.Option.{Option, none, some}
 use mathlib.Core.Bool.{Bool, _&&_}
 use mathlib.Core.Logic.{_↔_}
 use Prim.Native.Nat.{ℕ, zero, suc}
-use lib.IntN.{ℤ}
+use native.Mathlib.Omega.{arith}
 use lib.Dec.{eqb, ltb}
 use lib.ListN.{length}
 use borrow.Author.Tests.{ne-eqb, eq-eqb}
-use Rattle.lists.specs.Lists.{All, none-left, sum}
-use Rattle.geometry.specs.declared.Rect.{Rect}
-use Rattle.plan.specs.declared.Shape.{Shape}
-use Rattle.plan.specs.Plan.{layers, planCause, Sound}
-use Rattle.join.specs.Join.{areaIn}
+use Rattle.lists.specs.Lists.{All, none-left, sum, listIn}
+use Rattle.totals.specs.Totals.{totalOf, valueOf}
+use Rattle.totals.proofs.Totals.{value-total}
 use Rattle.search.specs.Traversal.{Probe, Row, rowOf}
-use Rattle.search.specs.Paging.{Halt, Paged, page, rowsOf}
+use Rattle.search.specs.Paging.{Halt, Paged, page}
 use Rattle.search.specs.Paging as Paging
 use Rattle.search.specs.Calls.{accepts, doneIn}
 use Rattle.search.specs.Calls as Search
-use Rattle.walk.specs.Walk.{walkOf, placesOf}
-use Rattle.walk.proofs.Theorems.{walk-is-table}
-use Rattle.paging.specs.Cursors.{dueCursor, resume}
-use Rattle.paging.specs.Calls.{capacity, fill, freshCause, leftIn, pageCause, paged, stopOf, pageCall, pageTable}
-use Rattle.paging.specs.Theorems.{Call, cause, answer, after, rowsIn}
-use Rattle.plan.proofs.Plan.{or-else-zero}
 use Rattle.search.proofs.Paging.{page-all}
+use Rattle.walk.specs.Walk.{placesOf}
+use Rattle.paging.specs.Overlays.{Overlay}
+use Rattle.paging.specs.Cursors.{dueCursor, resume}
+use Rattle.paging.specs.Pages.{fill, stopOf, room, paged, placed, pageOf}
+use Rattle.paging.specs.Theorems.{Served, rowsIn}
+use Rattle.paging.proofs.Overlays.{Lawful, walk-long}
 use Rattle.paging.proofs.Resume.{resume-is}
-use Rattle.paging.proofs.Tables.{places-filled, places-areas, walk-long}
-
--- the page, where no cause refuses it
-abbrev pub pageIf : ℕ → Paged (Probe Rect) (Row Rect) → Option (Paged (Probe Rect) (Row Rect))
-pageIf zero p = some p
-pageIf (suc cause) p = none
-
--- the page that a call is due on a plan
-abbrev pub pageOn : Shape → List ℤ → Call → Paged (Probe Rect) (Row Rect)
-pageOn s cells x = paged s cells (x .cursor) (x .budget) (x .table)
-
--- what the search's calls answer
-abbrev pub answered : Shape → List ℤ → Call → Option (Paged (Probe Rect) (Row Rect))
-answered s cells x = pageIf (cause x) (pageOn s cells x)
-
--- the rows that a call hands out
-abbrev pub rowsFrom : Call → List (List ℕ)
-rowsFrom x = rowsIn (x .shape .k) (answer x .rows) (after x)
-
--- the call allows a probe and a row on a plan of this shape
-abbrev pub allows : Shape → Call → Bool
-allows s x = ltb 0 (x .budget) && ltb 0 (capacity s (x .table))
-
--- the call answers what the search's call does
-pub record Agrees (s : Shape) (cells : List ℤ) (x : Call) : Type 0 where
-  pub probes : answer x .probes ≡ doneIn (answered s cells x)
-  pub rows : rowsFrom x ≡ map (placesOf s) (Search.rowsIn (answered s cells x))
-  pub area : answer x .area ≡ sum (map (areaIn (layers s cells)) (rowsFrom x))
-  pub allowed : (eqb (cause x) 0 && allows (x .shape) x) ≡ (accepts (answered s cells x) && allows s x)
-  pub stop : cause x ≡ 0 → answer x .stop ≡ stopOf (pageOn s cells x .halt)
-  pub cursor : cause x ≡ 0 → answer x .cursor ≡ dueCursor s (pageOn s cells x .rest)
+use Rattle.paging.proofs.Tables.{places-filled}
 
 -- a call tells a stop where its page does
 pub stop-is : (h j : Halt) → (stopOf h ≡ stopOf j) ↔ (h ≡ j)
@@ -74,73 +42,94 @@ stop-is h j = (go h j, ap stopOf)
     go Paging.Spent Paging.Full e = cc
     go Paging.Spent Paging.Spent e = refl
 
--- ---- refused
--- a refused call answers no page
-pub answered-none : (s : Shape) (cells : List ℤ) (x : Call) → (cause x ≡ 0 → ⊥) → answered s cells x ≡ none
-answered-none s cells x n = go (cause x) n
-  where
-    go : (c : ℕ) → (c ≡ 0 → ⊥) → pageIf c (pageOn s cells x) ≡ none
-    go zero n = absurd (n refl)
-    go (suc c) n = refl
+-- the page, where no cause refuses it
+abbrev pub pageIf : {S : Type 0} → ℕ → Paged (Probe S) (Row S) → Option (Paged (Probe S) (Row S))
+pageIf zero p = some p
+pageIf (suc cause) p = none
 
--- and agrees with that
-pub agrees-refused : (s : Shape) (cells : List ℤ) (x : Call) → (cause x ≡ 0 → ⊥) → Agrees s cells x
-unfolding pageCall pageTable
-agrees-refused s cells x n = go (cause x) refl n
-  where
-    go : (c : ℕ) → cause x ≡ c → (c ≡ 0 → ⊥) → Agrees s cells x
-    go zero e n = absurd (n refl)
-    go (suc c) e n = record {
-      probes = rw e;
-      rows = rw e;
-      area = rw e;
-      allowed = rw (ne-eqb (cause x) 0 (λ z. n (sym e ∙ z)), e);
-      stop = λ z. absurd (n (sym e ∙ z));
-      cursor = λ z. absurd (n (sym e ∙ z));
-    }
+module _ {S : Type 0} (o : Overlay S) where
+  -- the page that a call is due
+  abbrev pub pageOn : Served → Paged (Probe S) (Row S)
+  pageOn x = paged o (x .cursor) (x .budget) (x .table)
 
--- ---- accepted
--- an accepted call answers its page
-pub answered-some : (s : Shape) (cells : List ℤ) (x : Call) → cause x ≡ 0 → answered s cells x ≡ some (pageOn s cells x)
-answered-some s cells x e = rw e
+  -- what the search's calls answer
+  abbrev pub answered : Served → Option (Paged (Probe S) (Row S))
+  answered x = pageIf (x .cause) (pageOn x)
 
--- a call that is accepted brings a plan that no check refuses
-pub accepted-plan : (x : Call) → cause x ≡ 0 → planCause (x .shape) (x .cells) ≡ 0
-unfolding pageCause freshCause
-accepted-plan x e = or-else-zero (planCause (x .shape) (x .cells)) _ (or-else-zero (freshCause (x .shape) (x .cells) (x .order)) _ e .0) .0
+  -- the rows that a call hands out
+  abbrev pub rowsFrom : Served → List (List ℕ)
+  rowsFrom x = rowsIn (length (o .sizes)) (x .answer .rows) (x .after)
 
--- what holds of all rows of the walk holds of those of a call's page
-page-rows : {P : Row Rect → Type 0} (s : Shape) (cells : List ℤ) (x : Call) → All P (rowsOf rowOf (walkOf s cells)) → All P (pageOn s cells x .rows)
-page-rows {P} s cells x h = go (resume s cells (x .cursor)) refl
-  where
-    go : (o : Option (List (Probe Rect))) → resume s cells (x .cursor) ≡ o → All P (page rowOf (x .budget) (capacity s (x .table)) (leftIn o) .rows)
-    go none e = none-left
-    go (some w) e = let l = resume-is s cells (x .cursor) w e in page-all rowOf (x .budget) (capacity s (x .table)) (l .before) w (rw (l .splits) h)
+  -- the call allows a probe and a row
+  abbrev pub allows : Served → Bool
+  allows x = ltb 0 (x .budget) && ltb 0 (room o (x .table))
 
--- on its own plan
-agrees-own : (x : Call) → length (x .shape .sizes) ≡ 6 → cause x ≡ 0 → Agrees (x .shape) (x .cells) x
-unfolding pageCall pageTable
-agrees-own x six e = record {
-  probes = rw e;
-  rows = rw e filled;
-  area = rw (e, filled) (ap sum (places-areas s (areaIn (layers s (x .cells))) (page-rows s (x .cells) x (walk-is-table s (x .cells) sound .areas))));
-  allowed = rw (eq-eqb (cause x) 0 e, e);
-  stop = λ z. rw e;
-  cursor = λ z. rw e;
-}
-  where
-    s : Shape
-    s = x .shape
+  -- an accepted call answers its page and fills its table with it; a refused one reports nothing
+  pub record Serves (x : Served) : Type 0 where
+    pub page : x .cause ≡ 0 → x .answer ≡ pageOf o (pageOn x)
+    pub table : x .cause ≡ 0 → x .after ≡ fill (placed o (pageOn x .rows)) (x .table)
+    pub none : (x .cause ≡ 0 → ⊥) → (x .answer .probes ≡ 0) × (x .answer .rows ≡ 0) × (x .answer .area ≡ totalOf 0)
 
-    sound : Sound s (x .cells)
-    sound = record { six = six; passed = accepted-plan x e }
+  -- the call answers what the search's call does
+  pub record Agrees (x : Served) : Type 0 where
+    pub probes : x .answer .probes ≡ doneIn (answered x)
+    pub rows : rowsFrom x ≡ placed o (Search.rowsIn (answered x))
+    pub area : valueOf (x .answer .area) ≡ sum (map (o .area) (rowsFrom x))
+    pub allowed : (eqb (x .cause) 0 && allows x) ≡ (accepts (answered x) && allows x)
+    pub stop : x .cause ≡ 0 → x .answer .stop ≡ stopOf (pageOn x .halt)
+    pub cursor : x .cause ≡ 0 → x .answer .cursor ≡ dueCursor (o .sizes) (pageOn x .rest)
 
-    rs : List (Row Rect)
-    rs = pageOn s (x .cells) x .rows
+  -- ---- refused
+  -- a refused call answers no page
+  pub answered-none : (x : Served) → (x .cause ≡ 0 → ⊥) → answered x ≡ none
+  answered-none x n = go (x .cause) n
+    where
+      go : (c : ℕ) → (c ≡ 0 → ⊥) → pageIf c (pageOn x) ≡ none
+      go zero n = absurd (n refl)
+      go (suc c) n = refl
 
-    filled : rowsIn (s .k) (length rs) (fill (map (placesOf s) rs) (x .table)) ≡ map (placesOf s) rs
-    filled = places-filled s (x .table) (page-rows s (x .cells) x (walk-long s (x .cells) sound))
+  agrees-refused : (x : Served) → Serves x → (x .cause ≡ 0 → ⊥) → Agrees x
+  agrees-refused x v n =
+      let h = v .none n in
+      record {
+        probes = rw (answered-none x n) (h .0);
+        rows = rw (answered-none x n, h .1);
+        area = rw (h .1, h .2) (value-total 0);
+        allowed = rw (ne-eqb (x .cause) 0 n, answered-none x n);
+        stop = λ z. absurd (n z);
+        cursor = λ z. absurd (n z);
+      }
 
--- on the plan that it brings
-pub agrees-accepted : (s : Shape) (cells : List ℤ) (x : Call) → length (s .sizes) ≡ 6 → cause x ≡ 0 → x .shape ≡ s → x .cells ≡ cells → Agrees s cells x
-agrees-accepted s cells x six e p q = subst₂ (λ (t : Shape) (c : List ℤ). Agrees t c x) p q (agrees-own x (rw p six) e)
+  -- ---- accepted
+  -- an accepted call answers its page
+  pub answered-some : (x : Served) → x .cause ≡ 0 → answered x ≡ some (pageOn x)
+  answered-some x e = rw e
+
+  -- each row of a call's page has k places
+  pub page-long : Lawful o → (x : Served) → All (λ r. length (placesOf (o .sizes) r) ≡ length (o .sizes)) (pageOn x .rows)
+  page-long l x = go (resume o (x .cursor)) refl
+    where
+      go : (w : Option (List (Probe S))) → resume o (x .cursor) ≡ w → All (λ r. length (placesOf (o .sizes) r) ≡ length (o .sizes)) (page rowOf (x .budget) (room o (x .table)) (listIn w) .rows)
+      go none e = none-left
+      go (some w) e = let k = resume-is o (x .cursor) w e in page-all rowOf (x .budget) (room o (x .table)) (k .before) w (rw (k .splits) (walk-long o l))
+
+  agrees-accepted : Lawful o → (x : Served) → Serves x → x .cause ≡ 0 → Agrees x
+  agrees-accepted l x v e = record {
+    probes = rw (v .page e, e);
+    rows = rw (v .page e, v .table e, e) filled;
+    area = rw (v .page e, v .table e, filled) (value-total _);
+    allowed = rw (eq-eqb (x .cause) 0 e, e);
+    stop = λ z. rw (v .page e);
+    cursor = λ z. rw (v .page e);
+  }
+    where
+      filled : rowsIn (length (o .sizes)) (length (pageOn x .rows)) (fill (placed o (pageOn x .rows)) (x .table)) ≡ placed o (pageOn x .rows)
+      filled = places-filled o (x .table) (page-long l x)
+
+  -- ---- each call
+  pub agrees : Lawful o → (x : Served) → Serves x → Agrees x
+  agrees l x v = go (x .cause) refl
+    where
+      go : (c : ℕ) → x .cause ≡ c → Agrees x
+      go zero e = agrees-accepted l x v e
+      go (suc c) e = agrees-refused x v (λ z. omega (arith, e))

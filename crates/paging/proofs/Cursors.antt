@@ -11,9 +11,6 @@ use Rattle.lists.specs.Lists.{sum, same}
 use Rattle.lists.proofs.Padding.{path-is}
 use Rattle.lists.proofs.Tests.{both, same-test, clash}
 use Rattle.lists.proofs.Numbers.{same-refl, same-eq}
-use Rattle.geometry.specs.declared.Rect.{Rect}
-use Rattle.plan.specs.declared.Shape.{Shape}
-use Rattle.plan.specs.Plan.{sizesOf}
 use Rattle.plan.specs.Spots.{spotOf}
 use Rattle.search.specs.Traversal.{Probe}
 use Rattle.paging.specs.declared.Cursor.{Cursor}
@@ -60,38 +57,38 @@ abbrev pub pathIn : Cursor → List ℕ
 pathIn c = take (c .filled) (c .chosen) ++ c .next ∷ []
 
 -- the guard's number, by its layer and place
-abbrev pub guardIn : Shape → Cursor → ℕ
-guardIn s c = sum (take (c .layer - 1) (sizesOf s)) + c .place
+abbrev pub guardIn : List ℕ → Cursor → ℕ
+guardIn ns c = sum (take (c .layer - 1) ns) + c .place
 
-module _ (s : Shape) where
+module _ {S : Type 0} (ns : List ℕ) where
   -- the cursor of a probe says its guard's number
-  pub cursor-guard : (t : Probe Rect) → guardIn s (cursorOf s t) ≡ t .guard
+  pub cursor-guard : (t : Probe S) → guardIn ns (cursorOf ns t) ≡ t .guard
   cursor-guard t =
-      let i = spotOf (sizesOf s) (t .guard) .layer in
+      let i = spotOf ns (t .guard) .layer in
       let e : suc i - 1 ≡ i = omega arith in
-      rw e (number-spot (sizesOf s) (t .guard))
+      rw e (number-spot ns (t .guard))
 
   -- and its path, where this has at most 6 places
-  pub cursor-path : (t : Probe Rect) → Deep 6 t → pathIn (cursorOf s t) ≡ t .path
+  pub cursor-path : (t : Probe S) → Deep 6 t → pathIn (cursorOf ns t) ≡ t .path
   cursor-path t h = path-is 5 (length (t .path) - 1) (t .path) (omega arith) (omega arith)
 
   -- it is not the one that says the walk has ended
-  pub never-ended : (t : Probe Rect) → sameCursor endedCursor (cursorOf s t) ≡ false
+  pub never-ended : (t : Probe S) → sameCursor endedCursor (cursorOf ns t) ≡ false
   unfolding sameCursor
   never-ended t = refl
 
   -- two probes have the same cursor exactly where they have the same guard and path
-  pub same-named : (t u : Probe Rect) → Deep 6 t → Deep 6 u → sameCursor (cursorOf s u) (cursorOf s t) ≡ (eqb (t .guard) (u .guard) && same (t .path) (u .path))
-  same-named t u h k = same-test (sameCursor (cursorOf s u) (cursorOf s t)) (eqb (t .guard) (u .guard) && same (t .path) (u .path)) to from
+  pub same-named : (t u : Probe S) → Deep 6 t → Deep 6 u → sameCursor (cursorOf ns u) (cursorOf ns t) ≡ (eqb (t .guard) (u .guard) && same (t .path) (u .path))
+  same-named t u h k = same-test (sameCursor (cursorOf ns u) (cursorOf ns t)) (eqb (t .guard) (u .guard) && same (t .path) (u .path)) to from
     where
-      to : sameCursor (cursorOf s u) (cursorOf s t) ≡ true → (eqb (t .guard) (u .guard) && same (t .path) (u .path)) ≡ true
+      to : sameCursor (cursorOf ns u) (cursorOf ns t) ≡ true → (eqb (t .guard) (u .guard) && same (t .path) (u .path)) ≡ true
       to e =
-          let c = same-cursor-eq (cursorOf s u) (cursorOf s t) e in
-          let g : t .guard ≡ u .guard = sym (ap (guardIn s) c ∙ cursor-guard t) ∙ cursor-guard u in
+          let c = same-cursor-eq (cursorOf ns u) (cursorOf ns t) e in
+          let g : t .guard ≡ u .guard = sym (ap (guardIn ns) c ∙ cursor-guard t) ∙ cursor-guard u in
           let p : t .path ≡ u .path = sym (ap pathIn c ∙ cursor-path t h) ∙ cursor-path u k in
           rw (g, p, eq-eqb (u .guard) (u .guard) refl) (same-refl (u .path))
 
-      from : (eqb (t .guard) (u .guard) && same (t .path) (u .path)) ≡ true → sameCursor (cursorOf s u) (cursorOf s t) ≡ true
+      from : (eqb (t .guard) (u .guard) && same (t .path) (u .path)) ≡ true → sameCursor (cursorOf ns u) (cursorOf ns t) ≡ true
       from e =
           let b = both (eqb (t .guard) (u .guard)) (same (t .path) (u .path)) e in
-          rw (eqb-true (t .guard) (u .guard) (b .0), same-eq (t .path) (u .path) (b .1)) (same-cursor-refl (cursorOf s u))
+          rw (eqb-true (t .guard) (u .guard) (b .0), same-eq (t .path) (u .path) (b .1)) (same-cursor-refl (cursorOf ns u))

@@ -1,12 +1,13 @@
 pub mod Cursors
+pub mod Overlays
 pub mod Resume
-pub mod Named
-pub mod Causes
 pub mod Tables
 pub mod Calls
 pub mod Lasts
 pub mod Chains
 pub mod Lists
 pub mod Pages
+pub mod Named
+pub mod Causes
 pub mod Runs
 pub mod Theorems

@@ -1,73 +1,135 @@
--- What lists of page calls did, by what the search's calls did (demand 3).
-use mathlib.Core.Path.{_≡_, refl, sym, _∙_}
+-- What lists of page calls on an overlay did, by what the search's calls did: demand 3 of them.
+use mathlib.Core.Path.{_≡_, refl, sym, ap, _∙_}
 use mathlib.Core.List.{List, [], _∷_, _++_, map, append-assoc, List·Memᴰ·head, Memᴰ·append-right}
 use mathlib.Core.Option.{none, some, Option·map}
 use mathlib.Core.Logic.{_⊎_, inl, inr, _↔_}
-use Prim.Native.Nat.{ℕ, _<_}
+use Prim.Native.Nat.{ℕ, _≤_, _<_, zero-le}
+use borrow.Author.Tests.{ne-eqb}
 use native.Mathlib.Omega.{arith}
-use lib.IntN.{ℤ}
 use lib.ListN.{length, take, drop, take-append-drop}
 use lib.Seq.{take-append-seam}
-use Rattle.lists.specs.Lists.{All}
-use Rattle.lists.proofs.Lists.{all-at, all-parts}
+use Rattle.lists.specs.Lists.{All, none-left, _and_, sum}
+use Rattle.totals.specs.Totals.{valueOf}
+use Rattle.totals.proofs.Totals.{value-total}
+use Rattle.lists.proofs.Lists.{all-at, all-of-mem, all-parts}
 use Rattle.lists.proofs.Kept.{map-++}
-use Rattle.plan.specs.declared.Shape.{Shape}
-use Rattle.plan.specs.Plan.{Sound}
-use Rattle.join.specs.Table.{tableOf}
 use Rattle.search.specs.Traversal.{rowOf}
 use Rattle.search.specs.Paging.{rowsOf}
 use Rattle.search.specs.Paging as Paging
 use Rattle.search.specs.Calls.{lastOf}
 use Rattle.search.proofs.Paging.{rowsOf-++}
-use Rattle.walk.specs.Walk.{walkOf, placesOf}
-use Rattle.walk.proofs.Theorems.{walk-is-table}
+use Rattle.walk.specs.Walk.{placesOf}
 use Rattle.paging.specs.declared.Stop.the-variants.{Ended}
+use Rattle.paging.specs.Overlays.{Overlay}
 use Rattle.paging.specs.Cursors.{dueCursor}
-use Rattle.paging.specs.Theorems.{Call, cause, answer, handed, reported, allowing, Last}
-use Rattle.paging.proofs.Calls.{pageOn, answered, Agrees, stop-is, answered-some}
-use Rattle.paging.proofs.Lasts.{Refuses, last-or-none, last-none, last-is}
-use Rattle.paging.proofs.Chains.{Delivers, reported-same, allowing-same, handed-same}
+use Rattle.paging.specs.Pages.{placed}
+use Rattle.paging.specs.Theorems.{Served, handed, reported, allowing, Last, PagingHolds}
+use Rattle.paging.proofs.Overlays.{Lawful}
+use Rattle.paging.proofs.Calls.{pageOn, answered, Serves, Agrees, stop-is, answered-some}
+use Rattle.paging.proofs.Lasts.{Declined, last-or-none, last-none, last-is}
+use Rattle.paging.proofs.Chains.{Linked, Delivers, reported-same, allowing-same, handed-same, areas-same, linked-agrees, linked-delivered}
 
--- the rows of the first probes are the first rows of the table
-pub table-front : (s : Shape) (cells : List ℤ) → Sound s cells → (n : ℕ)
-    → let rows = map (placesOf s) (rowsOf rowOf (take n (walkOf s cells))) in rows ≡ take (length rows) (tableOf s cells)
-table-front s cells sound n =
-    let w = walkOf s cells in
-    let rows = map (placesOf s) (rowsOf rowOf (take n w)) in
-    let more = map (placesOf s) (rowsOf rowOf (drop n w)) in
-    let e : rows ++ more ≡ tableOf s cells = rw (← map-++ (placesOf s), ← rowsOf-++ rowOf, take-append-drop n w) (walk-is-table s cells sound .rows) in
-    rw (← e) (sym (take-append-seam rows more))
+module _ {S : Type 0} (o : Overlay S) where
+  -- the rows of the first probes are the first rows of the table
+  table-front : Lawful o → (n : ℕ) → let rows = placed o (rowsOf rowOf (take n (o .walk))) in rows ≡ take (length rows) (o .table)
+  table-front l n =
+      let w = o .walk in
+      let rows = placed o (rowsOf rowOf (take n w)) in
+      let more = placed o (rowsOf rowOf (drop n w)) in
+      let e : rows ++ more ≡ o .table = rw (← map-++ (placesOf (o .sizes)), ← rowsOf-++ rowOf, take-append-drop n w) (l .rows) in
+      rw (← e) (sym (take-append-seam rows more))
 
-module _ (s : Shape) (cells : List ℤ) (xs : List Call) (all : All (Agrees s cells) xs) (d : Delivers s cells xs) where
-  -- the rows handed out are those of the first probes, as many as were reported
-  pub yielded : handed xs ≡ map (placesOf s) (rowsOf rowOf (take (reported xs) (walkOf s cells)))
-  yielded = rw (handed-same s cells all, d .rows, reported-same s cells all)
+  module _ (xs : List Served) (all : All (Agrees o) xs) (d : Delivers o xs) where
+    -- the rows handed out are those of the first probes, as many as were reported
+    yielded : handed (length (o .sizes)) xs ≡ placed o (rowsOf rowOf (take (reported xs) (o .walk)))
+    yielded = rw (handed-same o all, d .rows, reported-same o all)
 
-  -- each call among them agrees
-  at : (ys : List Call) (x : Call) (zs : List Call) → xs ≡ ys ++ x ∷ zs → Agrees s cells x
-  at ys x zs e = all-at all (rw e (Memᴰ·append-right ys (List·Memᴰ·head refl)))
+    -- each call among them agrees
+    at : (ys : List Served) (x : Served) (zs : List Served) → xs ≡ ys ++ x ∷ zs → Agrees o x
+    at ys x zs e = all-at all (rw e (Memᴰ·append-right ys (List·Memᴰ·head refl)))
 
-  -- an accepted call tells Ended exactly where it reaches the walk's length
-  pub call-ended : (ys : List Call) (x : Call) (zs : List Call) → xs ≡ ys ++ x ∷ zs → cause x ≡ 0 → (answer x .stop ≡ Ended) ↔ (reported (ys ++ x ∷ []) ≡ length (walkOf s cells))
-  call-ended ys x zs e c =
-      let i = stop-is (pageOn s cells x .halt) Paging.Ended in
-      let j = d .ended ys x zs (pageOn s cells x) e (answered-some s cells x c) in
-      let a : All (Agrees s cells) ((ys ++ x ∷ []) ++ zs) = rw append-assoc (rw e at all) in
-      let k = reported-same s cells (all-parts (ys ++ x ∷ []) a .0) in
-      rw (at ys x zs e .stop c, k) (λ h. j .0 (i .0 h), λ h. i .1 (j .1 h))
+    -- an accepted call tells Ended exactly where it reaches the walk's length
+    call-ended : (ys : List Served) (x : Served) (zs : List Served) → xs ≡ ys ++ x ∷ zs → x .cause ≡ 0 → (x .answer .stop ≡ Ended) ↔ (reported (ys ++ x ∷ []) ≡ length (o .walk))
+    call-ended ys x zs e c =
+        let i = stop-is (pageOn o x .halt) Paging.Ended in
+        let j = d .ended ys x zs (pageOn o x) e (answered-some o x c) in
+        let a : All (Agrees o) ((ys ++ x ∷ []) ++ zs) = rw append-assoc (rw e at all) in
+        let k = reported-same o (all-parts (ys ++ x ∷ []) a .0) in
+        let s = at ys x zs e .stop c in
+        (λ h. k ∙ j .0 (i .0 (sym s ∙ h)), λ h. s ∙ i .1 (j .1 (sym k ∙ h)))
 
-  -- the last accepted call tells Ended where more calls allow a probe than the walk has
-  pub last-ended : length (walkOf s cells) < allowing xs → (x : Call) × Last xs x × (answer x .stop ≡ Ended)
-  last-ended h = go (last-or-none xs) (d .bound (rw (← allowing-same s cells all) h))
+    -- the last accepted call tells Ended where more calls allow a probe than the walk has
+    last-ended : length (o .walk) < allowing o xs → (x : Served) × Last xs x × (x .answer .stop ≡ Ended)
+    last-ended h = go (last-or-none xs) (d .bound (rw (← allowing-same o all) h))
+      where
+        go : All Declined xs ⊎ ((x : Served) × Last xs x) → Option·map (λ p. p .halt) (lastOf (answered o) xs) ≡ some Paging.Ended → (x : Served) × Last xs x × (x .answer .stop ≡ Ended)
+        go (inl n) e = let z : none ≡ some Paging.Ended = rw (last-none o n) at e in let y : _≡_ {A = ℕ} 0 1 = cc in absurd (omega arith)
+        go (inr y) e =
+            let l = y .1 in
+            let z : some (pageOn o (y .0) .halt) ≡ some Paging.Ended = rw (last-is o xs (y .0) l) at e in
+            (y .0, l, at (l .before) (y .0) (l .behind) (l .is) .stop (l .accepted) ∙ stop-is (pageOn o (y .0) .halt) Paging.Ended .1 cc)
+
+    -- its cursor is the one that is due then
+    last-cursor : (x : Served) → Last xs x → x .answer .cursor ≡ dueCursor (o .sizes) (drop (reported xs) (o .walk))
+    last-cursor x l =
+        at (l .before) x (l .behind) (l .is) .cursor (l .accepted) ∙ rw (reported-same o all) (rw (last-is o xs x l) at (d .last))
+
+  -- demand 3 of one list that begins with the fresh cursor
+  pub linked-holds : Lawful o → (xs : List Served) → Linked o (dueCursor (o .sizes) (o .walk)) xs → PagingHolds o xs
+  linked-holds l xs c = record {
+    first = rw rows (table-front l (reported xs));
+    yielded = rows;
+    within = rw (reported-same o all) (d .within);
+    budgets = all-of-mem xs (λ x m. rw (all-at all m .probes) (all-at (d .within-budget) m));
+    ended = call-ended xs all d;
+    bound = last-ended xs all d;
+    areas = areas-same o all;
+    last = last-cursor xs all d;
+  }
     where
-      go : All Refuses xs ⊎ ((x : Call) × Last xs x) → Option·map (λ p. p .halt) (lastOf (answered s cells) xs) ≡ some Paging.Ended → (x : Call) × Last xs x × (answer x .stop ≡ Ended)
-      go (inl n) e = let z : none ≡ some Paging.Ended = rw (last-none s cells n) at e in let y : _≡_ {A = ℕ} 0 1 = cc in absurd (omega arith)
-      go (inr y) e =
-          let l = y .1 in
-          let z : some (pageOn s cells (y .0) .halt) ≡ some Paging.Ended = rw (last-is s cells xs (y .0) l) at e in
-          (y .0, l, rw (at (l .before) (y .0) (l .behind) (l .is) .stop (l .accepted)) (stop-is (pageOn s cells (y .0) .halt) Paging.Ended .1 cc))
+      all : All (Agrees o) xs
+      all = linked-agrees o l c
 
-  -- its cursor is the one that is due then
-  pub last-cursor : (x : Call) → Last xs x → answer x .cursor ≡ dueCursor s (drop (reported xs) (walkOf s cells))
-  last-cursor x l =
-      at (l .before) x (l .behind) (l .is) .cursor (l .accepted) ∙ rw (reported-same s cells all) (rw (last-is s cells xs x l) at (d .last))
+      d : Delivers o xs
+      d = linked-delivered o l c
+
+      rows : handed (length (o .sizes)) xs ≡ placed o (rowsOf rowOf (take (reported xs) (o .walk)))
+      rows = yielded xs all d
+
+  -- ---- where each call is refused
+  -- nothing is handed out, reported or allowed
+  record Nothing (xs : List Served) : Type 0 where
+    rows : handed (length (o .sizes)) xs ≡ []
+    probes : reported xs ≡ 0
+    areas : sum (map (λ x. valueOf (x .answer .area)) xs) ≡ 0
+    allows : allowing o xs ≡ 0
+    budgets : All (λ x. x .answer .probes ≤ x .budget) xs
+
+  refused-nothing : {xs : List Served} → All (λ x. Serves o x × Declined x) xs → Nothing xs
+  refused-nothing none-left = record { rows = refl; probes = refl; areas = refl; allows = refl; budgets = none-left }
+  refused-nothing (_and_ {a = x} h hs) =
+      let n = refused-nothing hs in
+      let z = h .0 .none (h .1) in
+      record {
+        rows = rw (z .1) (n .rows);
+        probes = omega (arith, z .0, n .probes);
+        areas = omega (arith, ap valueOf (z .2), value-total 0, n .areas);
+        allows = rw (ne-eqb (x .cause) 0 (h .1)) (n .allows);
+        budgets = _and_ {a = x} (rw (z .0) zero-le) (n .budgets);
+      }
+
+  -- demand 3 of such a list
+  pub refused-holds : (xs : List Served) → All (λ x. Serves o x × Declined x) xs → PagingHolds o xs
+  refused-holds xs h = record {
+    first = rw (n .rows);
+    yielded = rw (n .rows, n .probes);
+    within = rw (n .probes) zero-le;
+    budgets = n .budgets;
+    ended = λ ys x zs e c. absurd (all-at {a = x} h (rw e (Memᴰ·append-right ys (List·Memᴰ·head refl))) .1 c);
+    bound = λ l. absurd (omega (arith, n .allows));
+    areas = rw (n .rows) (n .areas);
+    last = λ x l. absurd (all-at {a = x} h (rw (l .is) (Memᴰ·append-right (l .before) (List·Memᴰ·head refl))) .1 (l .accepted));
+  }
+    where
+      n : Nothing xs
+      n = refused-nothing h

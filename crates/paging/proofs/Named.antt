@@ -9,16 +9,15 @@ use native.Mathlib.Omega.{arith}
 use lib.IntN.{ℤ}
 use lib.ListN.{length, take, getD, length-take, length-append}
 use lib.Seq.{take-at, getD-at, length-take-le}
-use Rattle.lists.specs.Lists.{Tells, without, padded}
+use Rattle.lists.specs.Lists.{Tells, without, padded, isSome}
 use Rattle.lists.proofs.Tests.{clash, tells}
 use Rattle.lists.proofs.Lists.{all-at}
 use Rattle.lists.proofs.Kept.{length-without}
 use Rattle.geometry.specs.declared.Rect.{Rect}
-use Rattle.plan.specs.declared.Shape.{Shape}
-use Rattle.plan.specs.Plan.{count, sizesOf, layers, Sound}
+use Rattle.plan.specs.Plan.{count, layersOf}
+use Rattle.plan.specs.Frames.{Framed}
 use Rattle.plan.specs.Spots.{Spot, spotOf, rectOf}
 use Rattle.sweep.specs.Sweep.{sweepOrder}
-use Rattle.plan.proofs.Plan.{framed}
 use Rattle.sweep.proofs.Sweep.{sweep-is}
 use Rattle.plan.proofs.Spots.{layers-long, has-layer, rect-number}
 use Rattle.sweep.proofs.Spots.{sweeps}
@@ -29,47 +28,48 @@ use Rattle.walk.proofs.Slots.{slots-long}
 use Rattle.walk.proofs.Theorems.{walk-is-table}
 use Rattle.paging.specs.declared.Cursor.{Cursor}
 use Rattle.paging.specs.Cursors.{cursorOf, sameCursor, findIn, resume}
-use Rattle.paging.specs.Calls.{named}
+use Rattle.paging.specs.Overlays.{overlayOf}
 use Rattle.paging.specs.Theorems.{NamesProbe, Good}
 use Rattle.search.proofs.Stands.{named-short}
 use Rattle.paging.proofs.Cursors.{pathIn, same-cursor-refl, never-ended, cursor-path}
 use Rattle.lists.proofs.Padding.{padded-long, padded-zeros, padded-front}
+use Rattle.paging.proofs.Overlays.{lawful}
 use Rattle.paging.proofs.Resume.{Left, walk-deep, resume-is, resume-ended}
 
 -- the cursor of a probe of the list finds something there
-find-some : (s : Shape) {t : Probe Rect} (walk : List (Probe Rect)) → List·Memᴰ t walk → named (findIn s (cursorOf s t) walk) ≡ true
-find-some s [] m = absurd (List·Memᴰ·not-nil m)
-find-some s {t} (u ∷ walk) m = go (sameCursor (cursorOf s u) (cursorOf s t)) refl (find-some s walk)
+find-some : (ns : List ℕ) {t : Probe Rect} (walk : List (Probe Rect)) → List·Memᴰ t walk → isSome (findIn ns (cursorOf ns t) walk) ≡ true
+find-some ns [] m = absurd (List·Memᴰ·not-nil m)
+find-some ns {t} (u ∷ walk) m = go (sameCursor (cursorOf ns u) (cursorOf ns t)) refl (find-some ns walk)
   where
-    go : (b : Bool) → sameCursor (cursorOf s u) (cursorOf s t) ≡ b → (List·Memᴰ t walk → named (findIn s (cursorOf s t) walk) ≡ true) → named (cond b (some (u ∷ walk)) (findIn s (cursorOf s t) walk)) ≡ true
+    go : (b : Bool) → sameCursor (cursorOf ns u) (cursorOf ns t) ≡ b → (List·Memᴰ t walk → isSome (findIn ns (cursorOf ns t) walk) ≡ true) → isSome (cond b (some (u ∷ walk)) (findIn ns (cursorOf ns t) walk)) ≡ true
     go true q f = refl
-    go false q f = ⊎-elim (λ e. clash (rw e (same-cursor-refl (cursorOf s u))) q) f (List·Memᴰ·cases-cons m)
+    go false q f = ⊎-elim (λ e. clash (rw e (same-cursor-refl (cursorOf ns u))) q) f (List·Memᴰ·cases-cons m)
 
-module _ (s : Shape) (cells : List ℤ) (sound : Sound s cells) where
+module _ (ns : List ℕ) (cells : List ℤ) (frame : Framed ns cells) where
   -- the cursor of a probe of the walk names it
-  cursor-names : (t : Probe Rect) → List·Memᴰ t (walkOf s cells) → NamesProbe s cells (cursorOf s t)
+  cursor-names : (t : Probe Rect) → List·Memᴰ t (walkOf ns cells) → NamesProbe ns cells (cursorOf ns t)
   cursor-names t m = record {
     going = refl;
     layer = omega arith;
-    guard = rw e (rect-number (sizesOf s) cells (t .guard) (omega (arith, h .0, framed s cells sound .1 .whole)) .1);
+    guard = rw e (rect-number ns cells (t .guard) (omega (arith, h .0, frame .whole)) .1);
     five = padded-long 5 (take n (t .path));
     zeros = λ i h. padded-zeros 5 (take n (t .path)) i (omega (arith, length-take n (t .path)));
-    path = rw (e, cursor-path s t (all-at (walk-deep s cells (sound .six)) m)) (h .1);
+    path = rw (e, cursor-path ns t (all-at (walk-deep (overlayOf ns cells) (lawful ns cells frame)) m)) (h .1);
   }
     where
       n : ℕ
       n = length (t .path) - 1
 
-      e : suc (spotOf (sizesOf s) (t .guard) .layer) - 1 ≡ spotOf (sizesOf s) (t .guard) .layer
+      e : suc (spotOf ns (t .guard) .layer) - 1 ≡ spotOf ns (t .guard) .layer
       e = omega arith
 
-      h : (t .guard < count cells) × (let g = guardAt (layers s cells) (t .guard) (spotOf (sizesOf s) (t .guard)) in Named (g .slots) (g .start) (t .path))
-      h = walk-is-table s cells sound .probes (t .guard) (t .path) .0 (t, m, refl, refl)
+      h : (t .guard < count cells) × (let g = guardAt (layersOf ns cells) (t .guard) (spotOf ns (t .guard)) in Named (g .slots) (g .start) (t .path))
+      h = walk-is-table ns cells frame .probes (t .guard) (t .path) .0 (t, m, refl, refl)
 
   -- a cursor that names a probe leaves one of its five cells unfilled
-  names-filled : (c : Cursor) → NamesProbe s cells c → c .filled ≤ 4
+  names-filled : (c : Cursor) → NamesProbe ns cells c → c .filled ≤ 4
   names-filled c p =
-      let ls = layers s cells in
+      let ls = layersOf ns cells in
       let i = c .layer - 1 in
       let x = rectOf ls (record { layer = i; place = c .place }) .left in
       let l = length-without i ls (has-layer ls i (c .place) (p .guard)) in
@@ -77,16 +77,15 @@ module _ (s : Shape) (cells : List ℤ) (sound : Sound s cells) where
         arith,
         named-short (p .path) .1,
         slots-long x i (without i ls),
-        layers-long (sizesOf s) cells,
-        length-take (s .k) (s .sizes),
-        sound .six,
+        layers-long ns cells,
+        frame .few,
         length-append (take (c .filled) (c .chosen)) (c .next ∷ []),
         length-take (c .filled) (c .chosen),
         p .five,
       )
 
   -- it is the cursor of a probe with this spot and path
-  names-same : (c : Cursor) → NamesProbe s cells c → (t : Probe Rect) → spotOf (sizesOf s) (t .guard) ≡ record { layer = c .layer - 1; place = c .place } → t .path ≡ pathIn c → cursorOf s t ≡ c
+  names-same : (c : Cursor) → NamesProbe ns cells c → (t : Probe Rect) → spotOf ns (t .guard) ≡ record { layer = c .layer - 1; place = c .place } → t .path ≡ pathIn c → cursorOf ns t ≡ c
   names-same c p t g e = λ i. record {
     ended = sym (p .going) i;
     layer = layer i;
@@ -99,7 +98,7 @@ module _ (s : Shape) (cells : List ℤ) (sound : Sound s cells) where
       front : length (take (c .filled) (c .chosen)) ≡ c .filled
       front = length-take-le (c .filled) (c .chosen) (omega (arith, names-filled c p, p .five))
 
-      layer : suc (spotOf (sizesOf s) (t .guard) .layer) ≡ c .layer
+      layer : suc (spotOf ns (t .guard) .layer) ≡ c .layer
       layer = omega (arith, ap (λ (a : Spot). a .layer) g, p .layer)
 
       filled : length (t .path) - 1 ≡ c .filled
@@ -112,31 +111,31 @@ module _ (s : Shape) (cells : List ℤ) (sound : Sound s cells) where
       next = rw (filled, e) (getD-at (take (c .filled) (c .chosen)) (c .next) [] 0 (c .filled) front)
 
   -- a cursor that names a probe is that of one of the walk
-  names-cursor : (c : Cursor) → NamesProbe s cells c → (t : Probe Rect) × List·Memᴰ t (walkOf s cells) × (cursorOf s t ≡ c)
+  names-cursor : (c : Cursor) → NamesProbe ns cells c → (t : Probe Rect) × List·Memᴰ t (walkOf ns cells) × (cursorOf ns t ≡ c)
   names-cursor c p =
-      let y = Memᴰ·of-map (spotOf (sizesOf s)) (sweepOrder cells) (sweeps (sizesOf s) cells (framed s cells sound .1 .whole) .complete (record { layer = c .layer - 1; place = c .place }) (p .guard)) in
-      let i = walk-is-table s cells sound .probes (y .0) (pathIn c) .1 (all-at (sweep-is cells .below) (y .1), rw (y .2) (p .path)) in
+      let y = Memᴰ·of-map (spotOf ns) (sweepOrder cells) (sweeps ns cells (frame .whole) .complete (record { layer = c .layer - 1; place = c .place }) (p .guard)) in
+      let i = walk-is-table ns cells frame .probes (y .0) (pathIn c) .1 (all-at (sweep-is cells .below) (y .1), rw (y .2) (p .path)) in
       (i .0, i .1, names-same c p (i .0) (rw (i .2) (y .2)) (i .3))
 
   -- a cursor that names a probe resumes something
-  names-resumes : (c : Cursor) → NamesProbe s cells c → named (resume s cells c) ≡ true
+  names-resumes : (c : Cursor) → NamesProbe ns cells c → isSome (resume (overlayOf ns cells) c) ≡ true
   unfolding resume
   names-resumes c p =
       let i = names-cursor c p in
-      rw (← i .2, never-ended s (i .0)) (find-some s (walkOf s cells) (i .1))
+      rw (← i .2, never-ended ns (i .0)) (find-some ns (walkOf ns cells) (i .1))
 
   -- a cursor resumes something exactly where it is good
-  pub resumes : (c : Cursor) → Tells (Good s cells c) (named (resume s cells c))
-  resumes c = tells (named (resume s cells c)) (λ e. to (resume s cells c) refl e) from
+  pub resumes : (c : Cursor) → Tells (Good ns cells c) (isSome (resume (overlayOf ns cells) c))
+  resumes c = tells (isSome (resume (overlayOf ns cells) c)) (λ e. to (resume (overlayOf ns cells) c) refl e) from
     where
-      left : (w : List (Probe Rect)) → Left s (walkOf s cells) c w → Good s cells c
+      left : (w : List (Probe Rect)) → Left ns (walkOf ns cells) c w → Good ns cells c
       left [] l = inl (sym (l .due))
       left (t ∷ w) l = inr (rw (← l .due) (cursor-names t (rw (← l .splits) (Memᴰ·append-right (l .before) (List·Memᴰ·head refl)))))
 
-      to : (o : Option (List (Probe Rect))) → resume s cells c ≡ o → named o ≡ true → Good s cells c
+      to : (o : Option (List (Probe Rect))) → resume (overlayOf ns cells) c ≡ o → isSome o ≡ true → Good ns cells c
       to none e h = clash h refl
-      to (some w) e h = left w (resume-is s cells c w e)
+      to (some w) e h = left w (resume-is (overlayOf ns cells) c w e)
 
-      from : Good s cells c → named (resume s cells c) ≡ true
-      from (inl e) = rw (resume-ended s cells (sound .six) c .1 e)
+      from : Good ns cells c → isSome (resume (overlayOf ns cells) c) ≡ true
+      from (inl e) = rw (resume-ended (overlayOf ns cells) (lawful ns cells frame) c .1 e)
       from (inr p) = names-resumes c p

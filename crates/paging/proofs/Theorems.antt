@@ -1,112 +1,145 @@
 -- Demand 3 holds of every list of page calls on any plan, and of the whole run on every sound one.
-use mathlib.Core.Path.{_≡_, refl, sym, _∙_}
+use mathlib.Core.Path.{_≡_, refl, sym, ap, _∙_, subst, subst₂}
 use mathlib.Core.List.{List, map}
 use mathlib.Core.Option.{Option, none, some}
 use mathlib.Core.Bool.{true}
 use Prim.Native.Nat.{ℕ, zero, suc}
 use native.Mathlib.Omega.{arith}
 use lib.IntN.{ℤ}
-use lib.ListN.{length, take, drop}
+use lib.ListN.{length, drop}
 use lib.Seq.{drop-append-seam}
-use Rattle.lists.specs.Lists.{All}
-use Rattle.lists.proofs.Lists.{all-map, all-at, all-of-mem}
+use Rattle.lists.specs.Lists.{All, none-left, _and_, isSome}
+use Rattle.lists.proofs.Lists.{all-map}
 use Rattle.lists.proofs.Tests.{clash}
 use Rattle.geometry.specs.declared.Rect.{Rect}
+use Rattle.totals.specs.Totals.{totalOf}
 use Rattle.plan.specs.declared.Shape.{Shape}
-use Rattle.plan.specs.Plan.{planCause, Sound}
-use Rattle.sweep.specs.Sweep.{sweepOrder}
-use Rattle.join.specs.Table.{tableOf}
+use Rattle.plan.specs.Plan.{sizesOf, planCause, Typed, Sound}
+use Rattle.plan.proofs.Plan.{unless-zero, or-else-zero, framed}
+use Rattle.sweep.specs.Sweep.{sweepOrder, orderCause}
+use Rattle.sweep.proofs.Theorems.{sweep-holding, order-passes}
 use Rattle.join.proofs.Theorems.{tables}
-use Rattle.search.specs.Traversal.{Probe, rowOf}
-use Rattle.search.specs.Paging.{rowsOf}
-use Rattle.walk.specs.Walk.{walkOf, placesOf}
+use Rattle.search.specs.Traversal.{Probe}
 use Rattle.walk.proofs.Theorems.{walk-is-table}
-use Rattle.paging.specs.Cursors.{cursorOf, endedCursor, dueCursor, resume}
-use Rattle.paging.specs.Calls.{freshCause, freshCall, named, pageCause}
-use Rattle.paging.specs.Theorems.{Call, cause, Chain, Says, PageHolds, handed, reported, PagingHolds, Demand3}
+use Rattle.paging.specs.declared.Cursor.{Cursor}
+use Rattle.paging.specs.Overlays.{Overlay, overlay}
+use Rattle.paging.specs.Cursors.{cursorOf, dueCursor, resume}
+use Rattle.paging.specs.Calls.{freshCall, pageCause, pageCall, pageTable}
+use Rattle.paging.specs.Theorems.{Call, served, Chain, end, refused, accepted, Says, PageHolds, PagingHolds, Demand3}
+use Rattle.paging.proofs.Overlays.{Lawful, lawful}
 use Rattle.paging.proofs.Resume.{resume-is, walk-deep, resume-due}
-use Rattle.paging.proofs.Causes.{fresh-passes, call-causes, refuses}
-use Rattle.plan.proofs.Plan.{unless-zero, or-else-zero}
+use Rattle.paging.proofs.Causes.{sound-of, call-causes, refuses}
 use Rattle.paging.proofs.Cursors.{cursor-path}
-use Rattle.paging.proofs.Calls.{Agrees}
-use Rattle.paging.proofs.Lasts.{last-none}
-use Rattle.paging.proofs.Chains.{Delivers, reported-same, areas-same, chain-refused, chain-agrees, chain-delivered}
-use Rattle.paging.proofs.Lists.{table-front, yielded, call-ended, last-ended, last-cursor}
+use Rattle.paging.proofs.Calls.{Serves}
+use Rattle.paging.proofs.Chains.{Linked}
+use Rattle.paging.proofs.Chains as Chains
+use Rattle.paging.proofs.Lists.{linked-holds, refused-holds}
+use Rattle.paging.proofs.Lasts.{Declined}
 use Rattle.paging.proofs.Pages.{page-holds}
 use Rattle.paging.proofs.Runs.{run-holds}
 
--- ---- the fresh cursor
--- the fresh cursor of a sound plan is that of the whole walk
-pub fresh-cursor : (s : Shape) (cells : List ℤ) → planCause s cells ≡ 0 → freshCall s cells (sweepOrder cells) .cursor ≡ dueCursor s (walkOf s cells)
-unfolding freshCall
-fresh-cursor s cells e = rw (fresh-passes s cells e)
+-- the laws of a sound plan's overlay
+laws : (s : Shape) (cells : List ℤ) → Sound s cells → Lawful (overlay s cells)
+laws s cells h = lawful (sizesOf s) cells (framed s cells h .1)
 
--- ---- lists of calls
--- demand 3, of one list
-paging-holds : (s : Shape) (cells : List ℤ) (xs : List Call) → length (s .sizes) ≡ 6 → Chain s cells (freshCall s cells (sweepOrder cells) .cursor) xs → PagingHolds s cells xs
-paging-holds s cells xs six c = record {
-  first = go (planCause s cells) refl;
-  yielded = rows;
-  within = rw (reported-same s cells all) (d .within);
-  budgets = all-of-mem xs (λ x m. rw (all-at all m .probes) (all-at (d .within-budget) m));
-  ended = call-ended s cells xs all d;
-  bound = last-ended s cells xs all d;
-  areas = areas-same s cells all;
-  last = last-cursor s cells xs all d;
+-- ---- calls on a plan
+-- a call answers on its own plan's overlay
+serves-own : (x : Call) → Serves (overlay (x .shape) (x .cells)) (served x)
+unfolding pageCall pageTable
+serves-own x = record {
+  page = λ e. rw e;
+  table = λ e. rw e;
+  none = λ n. go (served x .cause) refl n;
 }
   where
-    all : All (Agrees s cells) xs
-    all = chain-agrees s cells six c
+    go : (c : ℕ) → served x .cause ≡ c → (served x .cause ≡ 0 → ⊥) → (served x .answer .probes ≡ 0) × (served x .answer .rows ≡ 0) × (served x .answer .area ≡ totalOf 0)
+    go zero e n = absurd (n e)
+    go (suc c) e n = (rw e, rw e, rw e)
 
-    d : Delivers s cells xs
-    d = chain-delivered s cells six (fresh-cursor s cells) c
+-- ... and on the overlay of the plan that it brings
+serves : (s : Shape) (cells : List ℤ) (x : Call) → x .shape ≡ s → x .cells ≡ cells → Serves (overlay s cells) (served x)
+serves s cells x p q = subst₂ (λ (t : Shape) (c : List ℤ). Serves (overlay t c) (served x)) p q (serves-own x)
 
-    rows : handed xs ≡ map (placesOf s) (rowsOf rowOf (take (reported xs) (walkOf s cells)))
-    rows = yielded s cells xs all d
+-- where it is refused, on any
+serves-none : (s : Shape) (cells : List ℤ) (x : Call) → (served x .cause ≡ 0 → ⊥) → Serves (overlay s cells) (served x)
+serves-none s cells x n = record { page = λ e. absurd (n e); table = λ e. absurd (n e); none = serves-own x .none }
 
-    go : (n : ℕ) → planCause s cells ≡ n → handed xs ≡ take (length (handed xs)) (tableOf s cells)
-    go zero e = rw rows (table-front s cells (record { six = six; passed = e }) (reported xs))
-    go (suc n) e =
-        let z : reported xs ≡ 0 = reported-same s cells all ∙ d .fresh (last-none s cells (chain-refused s cells (λ q. omega arith) c)) in
-        rw (rw z at rows)
+-- a call that is accepted brings a plan and an order that no check refuses
+accepted-order : (x : Call) → served x .cause ≡ 0 → orderCause (x .shape) (x .cells) (x .order) ≡ 0
+unfolding pageCause
+accepted-order x e = or-else-zero (orderCause (x .shape) (x .cells) (x .order)) _ e .0
+
+accepted-plan : (x : Call) → served x .cause ≡ 0 → planCause (x .shape) (x .cells) ≡ 0
+accepted-plan x e = sweep-holding .order (x .shape) (x .cells) (x .order) .none .0 (accepted-order x e) .0
+
+-- ---- lists of calls
+module _ (s : Shape) (cells : List ℤ) where
+  -- a chain of calls on a plan is one on its overlay
+  linked : {c : Cursor} {xs : List Call} → Chain s cells c xs → Linked (overlay s cells) c (map served xs)
+  linked end = Chains.end
+  linked (refused {x = x} n h) = Chains.refused (serves-none s cells x n) n (linked h)
+  linked (accepted {x = x} e p q k h) = Chains.accepted (serves s cells x p q) e k (linked h)
+
+  -- where the plan is refused, so is every call
+  all-refused : {c : Cursor} {xs : List Call} → (planCause s cells ≡ 0 → ⊥) → Chain s cells c xs → All (λ x. Serves (overlay s cells) x × Declined x) (map served xs)
+  all-refused n end = none-left
+  all-refused n (refused {x = x} r h) = _and_ (serves-none s cells x r, r) (all-refused n h)
+  all-refused n (accepted {x = x} e p q k h) = absurd (n (rw (p, q) at (accepted-plan x e)))
+
+  -- the fresh cursor of a sound plan is that of the whole walk
+  pub fresh-cursor : planCause s cells ≡ 0 → freshCall s cells (sweepOrder cells) .cursor ≡ dueCursor (sizesOf s) (overlay s cells .walk)
+  unfolding freshCall
+  fresh-cursor e = rw (order-passes s cells e)
+
+  -- demand 3, of one list
+  paging-holds : (xs : List Call) → Typed s → Chain s cells (freshCall s cells (sweepOrder cells) .cursor) xs → PagingHolds (overlay s cells) (map served xs)
+  paging-holds xs typed c = go (planCause s cells) refl
+    where
+      go : (n : ℕ) → planCause s cells ≡ n → PagingHolds (overlay s cells) (map served xs)
+      go zero e = linked-holds (overlay s cells) (laws s cells (record { typed = typed; passed = e })) (map served xs) (rw (fresh-cursor e) at (linked c))
+      go (suc n) e = refused-holds (overlay s cells) (map served xs) (all-refused (λ q. omega arith) c)
 
 -- ---- cursors
 -- the cursor of what is left is accepted, and resumes just that
 cursor-taken : (s : Shape) (cells : List ℤ) (n : ℕ) → Sound s cells
-    → (pageCause s cells (sweepOrder cells) (dueCursor s (drop n (walkOf s cells))) ≡ 0) × (resume s cells (dueCursor s (drop n (walkOf s cells))) ≡ some (drop n (walkOf s cells)))
+    → let o = overlay s cells in let w = drop n (o .walk) in (pageCause s cells (sweepOrder cells) (dueCursor (o .sizes) w) ≡ 0) × (resume o (dueCursor (o .sizes) w) ≡ some w)
 unfolding pageCause
-cursor-taken s cells n sound = let e = resume-due s cells (sound .six) n in (rw (fresh-passes s cells (sound .passed), e), e)
+cursor-taken s cells n sound = let e = resume-due (overlay s cells) (laws s cells sound) n in (rw (order-passes s cells (sound .passed), e), e)
 
 -- what is left at an accepted cursor is what is left after some number of probes
-page-left : (x : Call) → length (x .shape .sizes) ≡ 6 → cause x ≡ 0
-    → (n : ℕ) × (x .cursor ≡ dueCursor (x .shape) (drop n (walkOf (x .shape) (x .cells)))) × PageHolds x (drop n (walkOf (x .shape) (x .cells)))
+page-left : (x : Call) → Typed (x .shape) → served x .cause ≡ 0
+    → let o = overlay (x .shape) (x .cells) in (n : ℕ) × (x .cursor ≡ dueCursor (o .sizes) (drop n (o .walk))) × PageHolds o (served x) (drop n (o .walk))
 unfolding pageCause
-page-left x six e = go (resume (x .shape) (x .cells) (x .cursor)) refl
+page-left x typed e = go (resume o (x .cursor)) refl
   where
-    walk : List (Probe Rect)
-    walk = walkOf (x .shape) (x .cells)
+    o : Overlay Rect
+    o = overlay (x .shape) (x .cells)
 
-    go : (o : Option (List (Probe Rect))) → resume (x .shape) (x .cells) (x .cursor) ≡ o → (n : ℕ) × (x .cursor ≡ dueCursor (x .shape) (drop n walk)) × PageHolds x (drop n walk)
-    go none r = absurd (let z : named (resume (x .shape) (x .cells) (x .cursor)) ≡ true = unless-zero _ 5 (or-else-zero (freshCause (x .shape) (x .cells) (x .order)) _ e .1) in clash z (rw r))
+    l : Lawful o
+    l = laws (x .shape) (x .cells) (sound-of (x .shape) (x .cells) (x .order) typed (accepted-order x e))
+
+    go : (r : Option (List (Probe Rect))) → resume o (x .cursor) ≡ r → (n : ℕ) × (x .cursor ≡ dueCursor (o .sizes) (drop n (o .walk))) × PageHolds o (served x) (drop n (o .walk))
+    go none r = absurd (let z : isSome (resume o (x .cursor)) ≡ true = unless-zero _ 5 (or-else-zero (orderCause (x .shape) (x .cells) (x .order)) _ e .1) in clash z (rw r))
     go (some w) r =
-        let l = resume-is (x .shape) (x .cells) (x .cursor) w r in
-        let z : drop (length (l .before)) walk ≡ w = rw (← l .splits) (drop-append-seam (l .before) w) in
-        (length (l .before), rw z (sym (l .due)), rw z (page-holds x w six e r))
+        let k = resume-is o (x .cursor) w r in
+        let z : drop (length (k .before)) (o .walk) ≡ w = ap (drop (length (k .before))) (sym (k .splits)) ∙ drop-append-seam (k .before) w in
+        (length (k .before), sym (ap (dueCursor (o .sizes)) z ∙ k .due), subst (PageHolds o (served x)) (sym z) (page-holds o l (served x) (serves-own x) w e r))
 
 -- the cursor of each probe says its guard and its path
-cursor-says : (s : Shape) (cells : List ℤ) → length (s .sizes) ≡ 6 → All (λ t. Says s (cursorOf s t) t) (walkOf s cells)
-cursor-says s cells six = all-map (λ t h. record { layer = refl; place = refl; path = cursor-path s t h }) (walk-deep s cells six)
+cursor-says : (s : Shape) (cells : List ℤ) → Sound s cells → All (λ t. Says (sizesOf s) (cursorOf (sizesOf s) t) t) (overlay s cells .walk)
+cursor-says s cells h =
+    all-map (λ t d. record { layer = refl; place = refl; path = cursor-path (sizesOf s) t d }) (walk-deep (overlay s cells) (laws s cells h))
 
 -- ---- demand 3
 pub demand3 : Demand3
 demand3 = record {
-  table = tables .tables;
-  walk = walk-is-table;
+  table = λ s cells h. tables .tables (sizesOf s) cells (framed s cells h .1);
+  walk = λ s cells h. walk-is-table (sizesOf s) cells (framed s cells h .1);
   causes = call-causes;
   refused = refuses;
   says = cursor-says;
   taken = cursor-taken;
   page = page-left;
   paging = paging-holds;
-  run = λ s cells order table six e. let h = call-causes s cells order endedCursor table six .fresh .0 e in run-holds s cells order table (record { six = six; passed = h .0 }) (h .1);
+  run = λ s cells order table typed e. run-holds s cells order table (sound-of s cells order typed e) e;
 }

@@ -1,3 +1,5 @@
+pub mod Overlays
 pub mod Cursors
+pub mod Pages
 pub mod Calls
 pub mod Theorems

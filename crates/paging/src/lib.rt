@@ -1,6 +1,8 @@
 // Cursors, pages and whole runs: the types of the calls' answers. What the calls answer is defined in specs/, what demand 3 says of
 // lists of calls is proved in proofs/; the code of the calls is in the crate `pager`.
 
+use totals::Total;
+
 // Names the probe due next (01: a ticket): the guard's layer, from 1, and place, how many slots are filled, the chosen places, first
 // slot first, unfilled ones 0, and the place to try. Or the walk has ended, and all else is 0.
 pub struct Cursor {
@@ -32,12 +34,12 @@ pub struct Page {
     pub stop: Stop,
     pub rows: u32,
     pub probes: u32,
-    pub area: u64,
+    pub area: Total,
     pub cursor: Cursor,
 }
 
 // What the whole run answers: how many rows, how many probes, and the sum of the areas.
 pub enum Run {
     Refused(u32),
-    Done(u32, u64, u64),
+    Done(u32, u64, Total),
 }

@@ -15,10 +15,12 @@ use Rattle.lists.specs.Lists.{All, none-left, _and_, sum, Tells}
 use Rattle.lists.proofs.Lists.{all-take}
 use Rattle.lists.proofs.Tests.{clash, both, and-true, total}
 use Rattle.geometry.specs.Rectangles.{inRange}
+use Rattle.geometry.proofs.Rectangles.{range-extent}
+use Rattle.plan.specs.Limits.{mostRects}
 use Rattle.plan.specs.declared.Shape.{Shape}
 use Rattle.plan.specs.Causes.{unless, _orElse_}
 use Rattle.plan.specs.Frames.{Framed}
-use Rattle.plan.specs.Plan.{rectAt, count, sizesOf, sizeFits, sizesFit, allRanged, planCause, Sound}
+use Rattle.plan.specs.Plan.{rectAt, count, sizesOf, sizeFits, sizesFit, allRanged, shapeCause, planCause, Sound}
 use native.Mathlib.Nat.{le-refl}
 
 -- ---- two checks
@@ -136,30 +138,36 @@ pub ranged-end : (cells : List ℤ) (i n : ℕ) → allRanged i cells ≡ true �
 ranged-end cells i n e h k = let q : i ≡ n = omega arith in sym (subst (λ (m : ℕ). allRanged m cells ≡ true) q e)
 
 -- ---- the causes
-module _ (s : Shape) (cells : List ℤ) where
-  pub cause-low : s .k < 2 → 1 ≡ planCause s cells
-  unfolding planCause
-  cause-low h = rw (lt-leb 2 (s .k) h)
+-- of a shape
+module _ (s : Shape) where
+  pub shape-low : s .k < 2 → 1 ≡ shapeCause s
+  unfolding shapeCause
+  shape-low h = rw (lt-leb 2 (s .k) h)
 
   module _ (low : 2 ≤ s .k) where
-    pub cause-high : 6 < s .k → 1 ≡ planCause s cells
+    pub shape-high : 6 < s .k → 1 ≡ shapeCause s
+    unfolding shapeCause
+    shape-high h = rw (le-leb 2 (s .k) low, lt-leb (s .k) 6 h)
+
+    pub shape-sizes : s .k ≤ 6 → (t : Bool) → t ≡ sizesFit (s .k) 0 (s .sizes) → unless t 2 ≡ shapeCause s
+    unfolding shapeCause
+    shape-sizes high t e = rw (le-leb 2 (s .k) low, le-leb (s .k) 6 high, e)
+
+-- of a plan
+module _ (s : Shape) (cells : List ℤ) where
+  pub plan-shape : (n : ℕ) → n ≡ shapeCause s → (n ≡ 0 → ⊥) → n ≡ planCause s cells
+  unfolding planCause
+  plan-shape zero e h = absurd (h refl)
+  plan-shape (suc n) e h = rw (← e)
+
+  module _ (sound : shapeCause s ≡ 0) where
+    pub plan-cells : (length cells ≡ 4 * sum (s .sizes) → ⊥) → 3 ≡ planCause s cells
     unfolding planCause
-    cause-high h = rw (le-leb 2 (s .k) low, lt-leb (s .k) 6 h)
+    plan-cells n = rw (sound, ne-eqb (length cells) (4 * sum (s .sizes)) n)
 
-    module _ (high : s .k ≤ 6) where
-      pub cause-size : sizesFit (s .k) 0 (s .sizes) ≡ false → 2 ≡ planCause s cells
-      unfolding planCause
-      cause-size e = rw (le-leb 2 (s .k) low, le-leb (s .k) 6 high, e)
-
-      module _ (fit : sizesFit (s .k) 0 (s .sizes) ≡ true) where
-        pub cause-cells : (length cells ≡ 4 * sum (s .sizes) → ⊥) → 3 ≡ planCause s cells
-        unfolding planCause
-        cause-cells n = rw (le-leb 2 (s .k) low, le-leb (s .k) 6 high, fit, ne-eqb (length cells) (4 * sum (s .sizes)) n)
-
-        module _ (whole : length cells ≡ 4 * sum (s .sizes)) where
-          pub cause-range : (t : Bool) → allRanged (count cells) cells ≡ t → unless t 4 ≡ planCause s cells
-          unfolding planCause
-          cause-range t e = rw (le-leb 2 (s .k) low, le-leb (s .k) 6 high, fit, eq-eqb (length cells) (4 * sum (s .sizes)) whole, e)
+    pub plan-range : length cells ≡ 4 * sum (s .sizes) → (t : Bool) → t ≡ allRanged (count cells) cells → unless t 4 ≡ planCause s cells
+    unfolding planCause
+    plan-range whole t e = rw (sound, eq-eqb (length cells) (4 * sum (s .sizes)) whole, e)
 
 -- ---- a plan that is let through
 past-zero : (k j : ℕ) (ns : List ℕ) → k ≤ j → sizesFit k j ns ≡ true → sum ns ≡ 0
@@ -186,7 +194,7 @@ pub record Checked (s : Shape) (cells : List ℤ) : Type 0 where
   pub ranged : (k : ℕ) → k < count cells → inRange (rectAt cells k) ≡ true
 
 pub checked : (s : Shape) (cells : List ℤ) → Sound s cells → Checked s cells
-unfolding planCause
+unfolding planCause shapeCause
 checked s cells h = go (leb 2 (s .k) && leb (s .k) 6) refl (sizesFit (s .k) 0 (s .sizes)) refl (eqb (length cells) (4 * sum (s .sizes))) refl (allRanged (count cells) cells) refl (h .passed)
   where
     go : (a : Bool) → (leb 2 (s .k) && leb (s .k) 6) ≡ a → (f : Bool) → sizesFit (s .k) 0 (s .sizes) ≡ f → (w : Bool) → eqb (length cells) (4 * sum (s .sizes)) ≡ w → (r : Bool) → allRanged (count cells) cells ≡ r
@@ -219,13 +227,13 @@ sum-small none-left = zero-le
 sum-small (_and_ h hs) = omega (arith, sum-small hs)
 
 -- six sizes make at most 3,072 rectangles
-pub few : (s : Shape) (cells : List ℤ) → Sound s cells → count cells ≤ 3072
-few s cells h = let c = checked s cells h in omega (arith, h .six, count-is s cells c, sum-small (sizes-small (s .k) 0 (s .sizes) (c .fit)))
+pub few : (s : Shape) (cells : List ℤ) → Sound s cells → count cells ≤ mostRects
+few s cells h = let c = checked s cells h in omega (arith, h .typed .sizes, count-is s cells c, sum-small (sizes-small (s .k) 0 (s .sizes) (c .fit)))
 
 -- a plan that the checks let through, as its functions take it
 pub framed : (s : Shape) (cells : List ℤ) → Sound s cells → (s .k ≤ length (s .sizes)) × Framed (sizesOf s) cells
 framed s cells h =
-    let six = h .six in
+    let six = h .typed .sizes in
     let c = checked s cells h in
     let l = length-take-le (s .k) (s .sizes) (omega arith) in
     let f = front-sum s cells c in (
@@ -235,13 +243,13 @@ framed s cells h =
         few = omega arith;
         small = all-take (s .k) (sizes-small (s .k) 0 (s .sizes) (c .fit));
         whole = omega arith;
-        ranged = λ k p. c .ranged k (omega (arith, count-is s cells c));
+        ranged = λ k p. range-extent _ (c .ranged k (omega (arith, count-is s cells c)));
       },
     )
 
 -- a plan is refused by 1 to 4
 pub plan-most : (s : Shape) (cells : List ℤ) → planCause s cells ≤ 4
-unfolding planCause
+unfolding planCause shapeCause
 plan-most s cells = go (leb 2 (s .k) && leb (s .k) 6) (sizesFit (s .k) 0 (s .sizes)) (eqb (length cells) (4 * sum (s .sizes))) (allRanged (count cells) cells)
   where
     go : (a b c d : Bool) → (unless a 1 orElse unless b 2 orElse unless c 3 orElse unless d 4) ≤ 4

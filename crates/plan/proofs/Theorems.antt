@@ -8,15 +8,16 @@ use native.Mathlib.Omega.{arith}
 use lib.IntN.{ℤ}
 use lib.Dec.{eqb, leb, ltb}
 use lib.ListN.{length, getD}
+use lib.Seq.{length-take-le}
 use borrow.Author.Tests.{le-leb, leb-true, eq-eqb, eqb-true, le-ltb, lt-ltb}
 use Rattle.lists.specs.Lists.{Tells, sum}
 use Rattle.lists.proofs.Tests.{both, and-true, total, tells}
 use Rattle.geometry.proofs.Rectangles.{ranged, in-range}
 use Rattle.plan.specs.declared.Shape.{Shape}
 use Rattle.plan.specs.Causes.{unless, _orElse_}
-use Rattle.plan.specs.Plan.{count, sizeFits, sizesFit, allRanged, planCause}
+use Rattle.plan.specs.Plan.{count, sizeFits, sizesFit, allRanged, shapeCause, planCause}
 use Rattle.plan.specs.Theorems.{Layered, Sized, Filled, AllIn, CausesHold, Plans}
-use Rattle.plan.proofs.Plan.{ranged-at, ranged-all}
+use Rattle.plan.proofs.Plan.{ranged-at, ranged-all, framed, front-sum, checked}
 
 -- ---- causes
 -- what each test tells
@@ -97,7 +98,7 @@ module _ (P Q R S : Type 0) where
   }
 
 causes-hold : (s : Shape) (cells : List ℤ) → CausesHold s cells
-unfolding planCause
+unfolding planCause shapeCause
 causes-hold s cells = record { none = f .none; one = f .one; two = f .two; three = f .three; four = f .four }
   where
     f : First (Layered s) (Sized s) (Filled s cells) (AllIn cells) (planCause s cells)
@@ -108,4 +109,9 @@ causes-hold s cells = record { none = f .none; one = f .one; two = f .two; three
         (tells _ (λ e i h. ranged _ (ranged-at cells (count cells) i e h)) (λ h. ranged-all cells (count cells) (λ i k. in-range _ (h i k))))
 
 pub plans : Plans
-plans = record { causes = causes-hold }
+plans = record {
+  causes = causes-hold;
+  frames = λ s cells h.
+      let f = framed s cells h in
+      (f .1, front-sum s cells (checked s cells h), length-take-le (s .k) (s .sizes) (f .0));
+}

@@ -1,4 +1,5 @@
 pub mod Causes
+pub mod Limits
 pub mod Plan
 pub mod Spots
 pub mod Theorems

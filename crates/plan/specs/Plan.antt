@@ -11,13 +11,14 @@ use Rattle.geometry.specs.declared.Rect.{Rect}
 use Rattle.geometry.specs.Rectangles.{inRange}
 use Rattle.plan.specs.declared.Shape.{Shape}
 use Rattle.plan.specs.Causes.{unless, _orElse_}
+use Rattle.plan.specs.Limits.{mostLayers, mostSize}
 
 -- 01: "signed 32-bit cells, four for each rectangle: left, bottom, right, top"
 unfoldable pub rectAt : List ℤ → ℕ → Rect
 rectAt cells i =
     record { left = getD cells (4 * i) (pos 0); bottom = getD cells (4 * i + 1) (pos 0); right = getD cells (4 * i + 2) (pos 0); top = getD cells (4 * i + 3) (pos 0) }
 
--- how many rectangles lie in the cells; n, where check 3 is passed (specs/Theorems.antt, `counted`)
+-- how many rectangles lie in the cells; n, where check 3 is passed (sweep's specs/Theorems.antt, `counted`)
 abbrev pub count : List ℤ → ℕ
 count cells = length cells / 4
 
@@ -42,7 +43,7 @@ layers s cells = layersOf (sizesOf s) cells
 -- ---- the causes
 -- 2 does not apply to the size n of layer j, counted from 0: at most 512, and 0 past k
 unfoldable pub sizeFits : (k j n : ℕ) → Bool
-sizeFits k j n = leb n 512 && (ltb j k || eqb n 0)
+sizeFits k j n = leb n mostSize && (ltb j k || eqb n 0)
 
 -- ... nor to any size from that of layer j on
 abbrev pub sizesFit : (k j : ℕ) → List ℕ → Bool
@@ -54,15 +55,20 @@ abbrev pub allRanged : ℕ → List ℤ → Bool
 allRanged zero cells = true
 allRanged (suc n) cells = allRanged n cells && inRange (rectAt cells n)
 
+-- the first of the causes 1 and 2 that applies to a shape
+unfoldable pub shapeCause : Shape → ℕ
+shapeCause s = unless (leb 2 (s .k) && leb (s .k) mostLayers) 1 orElse unless (sizesFit (s .k) 0 (s .sizes)) 2
+
 -- the first of the causes 1 to 4 that applies to a plan
 unfoldable pub planCause : Shape → List ℤ → ℕ
 planCause s cells =
-    unless (leb 2 (s .k) && leb (s .k) 6) 1
-    orElse unless (sizesFit (s .k) 0 (s .sizes)) 2
-    orElse unless (eqb (length cells) (4 * sum (s .sizes))) 3
-    orElse unless (allRanged (count cells) cells) 4
+    shapeCause s orElse unless (eqb (length cells) (4 * sum (s .sizes))) 3 orElse unless (allRanged (count cells) cells) 4
 
--- a plan that none of them refuses; its shape has six sizes, as the type [u32; 6] says
+-- what the types of a shape's fields say: six sizes, as [u32; 6] does
+pub record Typed (s : Shape) : Type 0 where
+  pub sizes : length (s .sizes) ≡ 6
+
+-- a plan that none of them refuses
 pub record Sound (s : Shape) (cells : List ℤ) : Type 0 where
-  pub six : length (s .sizes) ≡ 6
+  pub typed : Typed s
   pub passed : planCause s cells ≡ 0

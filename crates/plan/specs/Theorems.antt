@@ -8,7 +8,8 @@ use lib.ListN.{length, getD}
 use Rattle.lists.specs.Lists.{sum}
 use Rattle.geometry.specs.Theorems.{Ranged}
 use Rattle.plan.specs.declared.Shape.{Shape}
-use Rattle.plan.specs.Plan.{rectAt, count, planCause}
+use Rattle.plan.specs.Plan.{rectAt, count, sizesOf, planCause, Sound}
+use Rattle.plan.specs.Frames.{Framed}
 
 -- ---- 01, "The plan": what each of the causes denies
 -- "k layers, 2 to 6"
@@ -37,3 +38,5 @@ pub record CausesHold (s : Shape) (cells : List ℤ) : Type 0 where
 
 pub record Plans : Type 0 where
   pub causes : (s : Shape) (cells : List ℤ) → CausesHold s cells
+  -- what the checks let through is what the table and the walk ask for; the sizes of the layers make up n, and there are k
+  pub frames : (s : Shape) (cells : List ℤ) → Sound s cells → Framed (sizesOf s) cells × (sum (sizesOf s) ≡ sum (s .sizes)) × (length (sizesOf s) ≡ s .k)

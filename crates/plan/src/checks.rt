@@ -1,4 +1,6 @@
 // The checks 1 to 4 of a plan.
+use crate::MOST_LAYERS;
+use crate::MOST_SIZE;
 use crate::Shape;
 use crate::rect_at;
 use geometry::in_range;
@@ -6,32 +8,34 @@ ghost use mathlib.Core.Path.{_≡_};
 ghost use Prim.Native.Nat.{_*_, _≤_};
 ghost use lib.ListN.{length};
 ghost use Rattle.lists.specs.Lists.{sum};
-ghost use Rattle.plan.specs.Plan.{count, sizeFits, sizesFit, allRanged, planCause};
-
-// The largest size of a layer.
-const MOST: u32 = 512;
+ghost use Rattle.plan.specs.Plan.{count, sizeFits, sizesFit, allRanged, shapeCause, planCause};
 
 // The first of the causes 1 to 4 that applies, or 0.
 pub fn plan_cause(shape: Shape, cells: &[i32]) -> u32
     ensures { λ r. ⌜ r ≡ planCause shape (now (cells .entry)) ⌝ }
 {
-    let k = shape.k;
+    let cause = shape_cause(shape);
+    if cause != 0 {
+        return cause;
+    }
+    if cells.len() != 4 * count_of(shape) {
+        return 3;
+    }
+    if all_ranged(cells) { 0 } else { 4 }
+}
+
+// The first of the causes 1 and 2 that applies, or 0.
+fn shape_cause(shape: Shape) -> u32
+    ensures { λ r. ⌜ r ≡ shapeCause shape ⌝ }
+{
+    let k = shape.k as usize;
     if k < 2 {
         return 1;
     }
-    if k > 6 {
+    if k > MOST_LAYERS {
         return 1;
     }
-    if !sizes_fit(&shape.sizes, k as usize) {
-        return 2;
-    }
-    if cells.len() != 4 * sum_of(&shape.sizes) {
-        return 3;
-    }
-    if !all_ranged(cells) {
-        return 4;
-    }
-    0
+    if sizes_fit(&shape.sizes, k) { 0 } else { 2 }
 }
 
 // Each size is at most 512, and 0 past k.
@@ -51,7 +55,7 @@ fn sizes_fit(sizes: &[u32], k: usize) -> bool
 fn size_fits(n: u32, j: usize, k: usize) -> bool
     ensures { λ r. ⌜ r ≡ sizeFits k j n ⌝ }
 {
-    if n > MOST {
+    if n > MOST_SIZE {
         return false;
     }
     if j < k {
@@ -60,10 +64,17 @@ fn size_fits(n: u32, j: usize, k: usize) -> bool
     n == 0
 }
 
-// How many rectangles these sizes are.
-pub fn sum_of(sizes: &[u32]) -> usize
+// How many rectangles a plan of this shape has.
+pub fn count_of(shape: Shape) -> usize
+    ensures { λ r. ⌜ (r ≡ sum (shape .sizes)) × (r ≤ 25769803770) ⌝ }
+{
+    sum_in(&shape.sizes)
+}
+
+// The sum of at most six sizes.
+fn sum_in(sizes: &[u32]) -> usize
     requires { ⌜ length (now sizes) ≤ 6 ⌝ }
-    ensures { λ r. ⌜ (r ≡ sum (now (sizes .entry))) × (r ≤ 4294967295 * 6) ⌝ }
+    ensures { λ r. ⌜ (r ≡ sum (now (sizes .entry))) × (r ≤ 25769803770) ⌝ }
 {
     let mut n: usize = 0;
     let mut j = 0;

@@ -3,18 +3,27 @@
 // A shape goes by value beside the lent cells. Rectangles are read by `rect_at` alone, from all cells or from one layer's.
 mod checks;
 
+pub use checks::count_of;
 pub use checks::plan_cause;
-pub use checks::sum_of;
 use geometry::Rect;
 ghost use mathlib.Core.Path.{_≡_};
 ghost use Prim.Native.Nat.{_+_, _*_, _≤_};
 ghost use lib.ListN.{length, take, drop};
 ghost use Rattle.plan.specs.Plan.{rectAt};
 
+// The most layers that a plan has, the most rectangles of a layer, and of a plan, and the cells of these.
+pub const MOST_LAYERS: usize = 6;
+
+pub const MOST_SIZE: u32 = 512;
+
+pub const MOST_RECTS: usize = 3072;
+
+pub const MOST_CELLS: usize = 12288;
+
 // A plan's k and six sizes.
 pub struct Shape {
     pub k: u32,
-    pub sizes: [u32; 6],
+    pub sizes: [u32; MOST_LAYERS],
 }
 
 // The cells of the layer that begins after `start` rectangles.

@@ -5,11 +5,13 @@ use Prim.Native.Nat.{ℕ, suc, _+_, _*_, _/_, _%_, _≤_}
 use native.Mathlib.Nat.{div-one}
 use native.Mathlib.Omega.{arith}
 use lib.ListN.{length, length-append}
+use Rattle.totals.specs.declared.Total.{Total}
+use Rattle.totals.specs.Totals.{valueOf}
 use Rattle.decimal.specs.Numerals.{digits, decimal}
 use Rattle.decimal.proofs.Numerals.{length-decimal, size-most}
 use Rattle.plan.specs.Plan.{Layer}
-use Rattle.paging.specs.Calls.{cellsOf}
-use Rattle.printing.specs.Lines.{fieldsEnd, ROW, rowFields, line, rowLine, rowLines, hundredths, squareMetres, totalLine, refusedLine}
+use Rattle.paging.specs.Pages.{cellsOf}
+use Rattle.printing.specs.Lines.{fieldsEnd, ROW, rowFields, line, rowLine, rowLines, hundredths, squareMetres, totalLine, refusedLine, TOTAL}
 use Rattle.printing.specs.Parts.{tabbed}
 
 -- ---- parts
@@ -30,6 +32,12 @@ decimals-of h tenths last e f = rw (div-one h, e, f)
 -- the square metres of an area, given its hundredths
 pub metres-of : (area h : ℕ) → h ≡ hundredths area → fieldsEnd (squareMetres (hundredths area) ∷ []) ≡ (9 ∷ squareMetres h) ++ fieldsEnd []
 metres-of area h e = rw e
+
+-- the total's line, given what the total says
+pub total-parts : (rows probes : ℕ) (total : Total) (area : ℕ) → area ≡ valueOf total
+    → totalLine rows probes total ≡ TOTAL ++ fieldsEnd (decimal rows ∷ decimal probes ∷ squareMetres (hundredths area) ∷ [])
+unfolding line
+total-parts rows probes total area e = rw e
 
 -- ---- lengths: no number has more than twenty digits
 few : (n : ℕ) → length (decimal n) ≤ 20
@@ -63,10 +71,10 @@ metres-few : (h : ℕ) → length (squareMetres h) ≤ 23
 unfolding squareMetres
 metres-few h = omega (arith, length-append (decimal (h / 100)) (46 ∷ digits 2 h), few (h / 100))
 
-pub total-few : (rows probes area : ℕ) → length (totalLine rows probes area) ≤ 72
+pub total-few : (rows probes : ℕ) (total : Total) → length (totalLine rows probes total) ≤ 72
 unfolding line
-total-few rows probes area =
-    let h = hundredths area in
+total-few rows probes total =
+    let h = hundredths (valueOf total) in
     let last = fieldsEnd (squareMetres h ∷ []) in
     let a : length last ≤ 25 = field-few (squareMetres h) (10 ∷ []) 23 1 (metres-few h) (omega arith) in
     let b = field-few (decimal probes) last 20 25 (few probes) a in

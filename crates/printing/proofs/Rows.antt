@@ -8,14 +8,19 @@ use lib.IntN.{ℤ}
 use lib.ListN.{length, take, drop, length-take, length-drop}
 use lib.Seq.{drop-drop}
 use Rattle.lists.specs.Lists.{_and_}
-use Rattle.lists.proofs.Tests.{both}
-use Rattle.geometry.specs.Rectangles.{nonempty}
+use Rattle.lists.proofs.Tests.{clash, both}
+use Rattle.geometry.specs.Rectangles.{nonempty, areaOf}
 use Rattle.plan.specs.Plan.{Layer, layersOf}
-use Rattle.rows.specs.declared.RowAnswer.{RowAnswer}
-use Rattle.rows.specs.declared.RowAnswer.the-variants.{Refused, NoRow, Row}
-use Rattle.join.specs.Join.{rects, commonOf, areaIn, guardLayer}
+use Rattle.plan.specs.Frames.{Framed}
+use Rattle.plan.proofs.Spots.{layers-long}
+use Rattle.rows.specs.declared.Ground.{Ground}
+use Rattle.rows.specs.declared.Sharing.{Sharing}
+use Rattle.rows.specs.declared.Sharing.the-variants.{Nothing, Shared}
+use Rattle.rows.specs.Grounds.{groundOf}
+use Rattle.rows.proofs.Answers.{ground-none, ground-small, ground-layer, ground-area}
+use Rattle.join.specs.Join.{rects, commonOf}
 use Rattle.join.specs.Table.{sizesIn}
-use Rattle.rows.specs.RowCall.{fits, isRow, told, rowValues, rowAnswer}
+use Rattle.rows.specs.RowCall.{fits, isRow}
 use Rattle.rows.proofs.RowCall.{fits-long, sizes-of}
 use Rattle.paging.specs.Theorems.{rowsIn}
 use Rattle.decimal.specs.Stores.{Put}
@@ -24,29 +29,26 @@ use Rattle.printing.specs.Lines.{line, ROW, rowFields, rowLine, rowLines
 use Rattle.printing.specs.Parts.{AllRows, Rows, Room}
 use Rattle.printing.proofs.Puts.{room-left}
 
--- ---- what the row call answers for a row of the join
-module _ (ls : List Layer) (row : List ℕ) (r : RowAnswer) (is : isRow ls row ≡ true) (e : r ≡ rowAnswer (told ls row)) where
-  answered : r ≡ Row (suc (guardLayer (rects ls row))) (areaIn ls row)
-  unfolding told
-  answered = e ∙ rw is
+-- ---- the ground of a row of the join
+module _ (ls : List Layer) (row : List ℕ) (r : Sharing) (e : r ≡ groundOf ls row) where
+  -- there is one
+  pub not-none : isRow ls row ≡ true → r ≡ Nothing → ⊥
+  not-none is f = clash is (ground-none ls row (sym f ∙ e))
 
-  pub not-refused : (cause : ℕ) → r ≡ Refused cause → ⊥
-  not-refused cause f = omega (arith, ap (λ (a : RowAnswer). rowValues a .layer) (sym f ∙ answered))
+  -- the row's line is made of what it tells
+  module _ (g : Ground) (f : r ≡ Shared g) (area : ℕ) (a : area ≡ areaOf (g .common)) where
+    pub row-told : rowLine ls row ≡ line ROW (rowFields (g .guard + 1) row area)
+    row-told = rw (ground-layer ls row g (sym f ∙ e), ground-area ls row g (sym f ∙ e) area a)
 
-  pub not-none : r ≡ NoRow → ⊥
-  not-none f = omega (arith, ap (λ (a : RowAnswer). rowValues a .layer) (sym f ∙ answered))
-
-  -- its line is made of what is told
-  module _ (layer area : ℕ) (f : r ≡ Row layer area) where
-    pub row-told : rowLine ls row ≡ line ROW (rowFields layer row area)
-    row-told =
-        let g = sym f ∙ answered in
-        let l : layer ≡ suc (guardLayer (rects ls row)) = ap (λ (a : RowAnswer). rowValues a .layer) g in
-        let a : area ≡ areaIn ls row = ap (λ (a : RowAnswer). rowValues a .area) g in
-        rw (l, a)
-
-    pub row-room : (buf : List ℕ) (at : ℕ) → Room buf at (rowLine ls row) → Room buf at (line ROW (rowFields layer row area))
+    pub row-room : (buf : List ℕ) (at : ℕ) → Room buf at (rowLine ls row) → Room buf at (line ROW (rowFields (g .guard + 1) row area))
     row-room buf at h = rw row-told at h
+
+-- its guard is in one of at most six layers
+pub layer-small : (sizes : List ℕ) (cells : List ℤ) (row : List ℕ) (r : Sharing) (g : Ground)
+    → Framed sizes cells → r ≡ groundOf (layersOf sizes cells) row → r ≡ Shared g → g .guard + 1 < 4294967296
+layer-small sizes cells row r g h e f =
+    let l = layers-long sizes cells in
+    omega (arith, ground-small (layersOf sizes cells) row g (sym f ∙ e) (omega (arith, l, h .some)), l, h .few)
 
 -- a row has a place for each layer
 row-long : (sizes : List ℕ) (cells : List ℤ) (row : List ℕ) → isRow (layersOf sizes cells) row ≡ true → length row ≡ length sizes

@@ -1,6 +1,8 @@
 -- The lines of the report (01, "The report"). "Fields are tabbed, and each line ends in byte 10."
 use mathlib.Core.List.{List, [], _∷_, _++_, map}
 use Prim.Native.Nat.{ℕ, suc, _+_, _/_}
+use Rattle.totals.specs.declared.Total.{Total}
+use Rattle.totals.specs.Totals.{valueOf}
 use Rattle.decimal.specs.Numerals.{digits, decimal}
 use Rattle.plan.specs.Plan.{Layer}
 use Rattle.join.specs.Join.{rects, areaIn, guardLayer}
@@ -47,8 +49,8 @@ unfoldable pub squareMetres : (hundredths : ℕ) → List ℕ
 squareMetres h = decimal (h / 100) ++ 46 ∷ digits 2 h
 
 -- probes are 01's trials
-abbrev pub totalLine : (rows probes areaSum : ℕ) → List ℕ
-totalLine rows probes areaSum = line TOTAL (decimal rows ∷ decimal probes ∷ squareMetres (hundredths areaSum) ∷ [])
+abbrev pub totalLine : (rows probes : ℕ) → Total → List ℕ
+totalLine rows probes total = line TOTAL (decimal rows ∷ decimal probes ∷ squareMetres (hundredths (valueOf total)) ∷ [])
 
 -- ---- 01: "A refusal prints REFUSED and its number alone."
 abbrev pub refusedLine : (cause : ℕ) → List ℕ

@@ -1,8 +1,9 @@
 // The lines of the report, put into a buffer at a place (01, "The report"): a row's, the total, a refusal.
 use decimal::put_decimal;
 use decimal::put_word;
-use rows::RowAnswer;
-use rows::row_among;
+use rows::Sharing;
+use rows::row_ground;
+use totals::Total;
 ghost use mathlib.Core.Path.{_≡_};
 ghost use mathlib.Core.Bool.{true};
 ghost use mathlib.Core.List.{[], _∷_, _++_};
@@ -99,10 +100,12 @@ fn put_joined(
     requires { ⌜ Room (now buf) at (rowLine (layersOf (take k (now sizes)) (now cells)) (now row)) ⌝ }
     ensures { λ r. ⌜ Put (now (buf .entry)) at (rowLine (layersOf (take k (now (sizes .entry))) (now (cells .entry))) (now (row .entry))) (now (buf .exit)) r ⌝ }
 {
-    match row_among(sizes, k, cells, row) {
-        RowAnswer::Refused(_) => at,
-        RowAnswer::NoRow => at,
-        RowAnswer::Row(layer, area) => put_row(buf, at, layer, row, area),
+    match row_ground(sizes, k, cells, row) {
+        Sharing::Nothing => at,
+        Sharing::Shared(g) => {
+            let layer = g.guard + 1;
+            put_row(buf, at, layer, row, geometry::area(g.common))
+        }
     }
 }
 
@@ -201,12 +204,12 @@ fn put_counts(buf: &mut [u8], at: usize, rows: u32, probes: u64, area: u64) -> u
 }
 
 // The TOTAL line; the place behind it.
-fn put_total(buf: &mut [u8], at: usize, rows: u32, probes: u64, area: u64) -> usize
-    requires { ⌜ Room (now buf) at (totalLine rows probes area) ⌝ }
-    ensures { λ r. ⌜ Put (now (buf .entry)) at (totalLine rows probes area) (now (buf .exit)) r ⌝ }
+fn put_total(buf: &mut [u8], at: usize, rows: u32, probes: u64, total: Total) -> usize
+    requires { ⌜ Room (now buf) at (totalLine rows probes total) ⌝ }
+    ensures { λ r. ⌜ Put (now (buf .entry)) at (totalLine rows probes total) (now (buf .exit)) r ⌝ }
 {
     let a = put_word(buf, at, b"TOTAL");
-    put_counts(buf, a, rows, probes, area)
+    put_counts(buf, a, rows, probes, totals::value(total))
 }
 
 // The lines of the first n rows of a table, and the total, at the start of the buffer; the place behind them.
@@ -218,14 +221,14 @@ pub fn put_table(
     table: &[u32],
     n: u32,
     probes: u64,
-    area: u64,
+    total: Total,
 ) -> usize
     requires { ⌜ Rows (now sizes) k (now cells) (now table) n ⌝ }
-    requires { ⌜ Room (now buf) 0 (rowLines (layersOf (take k (now sizes)) (now cells)) (rowsIn k n (now table)) ++ totalLine n probes area) ⌝ }
-    ensures { λ r. ⌜ Put (now (buf .entry)) 0 (rowLines (layersOf (take k (now (sizes .entry))) (now (cells .entry))) (rowsIn k n (now (table .entry))) ++ totalLine n probes area) (now (buf .exit)) r ⌝ }
+    requires { ⌜ Room (now buf) 0 (rowLines (layersOf (take k (now sizes)) (now cells)) (rowsIn k n (now table)) ++ totalLine n probes total) ⌝ }
+    ensures { λ r. ⌜ Put (now (buf .entry)) 0 (rowLines (layersOf (take k (now (sizes .entry))) (now (cells .entry))) (rowsIn k n (now (table .entry))) ++ totalLine n probes total) (now (buf .exit)) r ⌝ }
 {
     let at = put_rows(buf, 0, sizes, k, cells, table, n as usize);
-    put_total(buf, at, n, probes, area)
+    put_total(buf, at, n, probes, total)
 }
 
 // The REFUSED line; the place behind it.

@@ -7,25 +7,31 @@ use native.Mathlib.Omega.{arith}
 use lib.IntN.{ℤ}
 use lib.ListN.{length, length-append, take, length-take, length-replicate}
 use Rattle.lists.specs.Lists.{sum}
+use Rattle.totals.specs.declared.Total.{Total}
 use Rattle.plan.specs.declared.Shape.{Shape}
 use Rattle.plan.specs.Causes.{onCause}
-use Rattle.plan.specs.Plan.{count, layers, Sound}
+use Rattle.plan.specs.Plan.{count, sizesOf, layers, Sound}
+use Rattle.plan.specs.Limits.{mostRects}
 use Rattle.sweep.specs.Sweep.{sweepOrder, orderAfter}
 use Rattle.plan.proofs.Plan.{few, framed}
 use Rattle.sweep.proofs.Orders.{order-made}
 use Rattle.join.specs.Table.{tableOf}
-use Rattle.paging.specs.Calls.{capacity, runCause}
-use Rattle.paging.proofs.Tables.{cells-long, table-long}
+use Rattle.paging.specs.Pages.{room}
+use Rattle.paging.specs.Calls.{runCause}
+use Rattle.paging.proofs.Tables.{cells-long}
+use Rattle.paging.proofs.Overlays.{lawful}
+use Rattle.sweep.proofs.Theorems.{order-passes}
 use Rattle.paging.proofs.Runs.{run-holds}
 use Rattle.printing.specs.Lines.{rowLines, totalLine, refusedLine}
 use Rattle.printing.specs.Parts.{Room}
 use Rattle.printing.proofs.Lines.{rows-few, total-few, refused-few}
-use Rattle.reporting.specs.Report.{runTableCells, tableReport, roomForAny}
+use Rattle.reporting.specs.Report.{runTableCells, emptyTable, tableReport, roomForAny}
 use Rattle.reporting.specs.Parts.{first, Lent, planReport}
+use Rattle.paging.specs.Overlays.{overlay}
 
-pub lent-long : length runTableCells ≡ 12288
-unfolding runTableCells
-lent-long = length-replicate {A = ℕ} 12288 0
+pub empty-long : length emptyTable ≡ runTableCells
+unfolding emptyTable
+empty-long = length-replicate {A = ℕ} runTableCells 0
 
 -- the order maker makes the sweep order of a sound plan
 pub swept : (s : Shape) (cells : List ℤ) (order after : List ℕ) → Sound s cells → length order ≡ count cells → after ≡ orderAfter s cells order → after ≡ sweepOrder cells
@@ -43,33 +49,35 @@ module _ (s : Shape) (lent : List ℤ) (n : ℕ) (e : n ≡ sum (s .sizes)) wher
     pub lent-sound : Sound s (take (4 * n) lent)
     lent-sound = rw e (h .sound)
 
-    pub lent-few : count (take (4 * n) lent) ≤ 3072
+    pub lent-few : count (take (4 * n) lent) ≤ mostRects
     lent-few = few s (take (4 * n) lent) lent-sound
 
 pub part-long : (order : List ℕ) (n : ℕ) → n ≤ length order → length (take n order) ≡ n
 part-long order n h = omega (arith, length-take n order)
 
-module _ (s : Shape) (cells : List ℤ) (sound : Sound s cells) (order table : List ℕ) (o : order ≡ sweepOrder cells) (long : length table ≡ 12288) where
+module _ (s : Shape) (cells : List ℤ) (sound : Sound s cells) (order table : List ℕ) (o : order ≡ sweepOrder cells) (long : length table ≡ runTableCells) where
   -- the cause goes by the table's length alone
-  pub same-cause : runCause s cells order table ≡ runCause s cells (sweepOrder cells) runTableCells
+  pub same-cause : runCause s cells order table ≡ runCause s cells (sweepOrder cells) emptyTable
   unfolding runCause
-  same-cause = rw (o, long, lent-long)
+  same-cause = rw (o, long, empty-long)
 
-  -- rows that 12,288 cells take leave room for the total
-  pub room : (rows probes area : ℕ) → length (tableOf s cells) ≤ capacity s table → length (rowLines (layers s cells) (tableOf s cells) ++ totalLine rows probes area) ≤ roomForAny
-  room rows probes area h =
-      let n = length (tableOf s cells) in
-      let f = framed s cells sound .1 .some in
-      let two : 2 ≤ s .k = omega (arith, f, length-take (s .k) (s .sizes)) in
-      let c = cells-long (s .k) (table-long s cells sound) in
-      let q : n ≤ length table / s .k = omega arith in
-      let m : s .k * n ≤ 12288 = le-trans (mul-le-mul-left {m = n} {n = 12288 / s .k} (s .k) (rw long at q)) (mul-div-le 12288 (s .k)) in
-      let t : 2 * n ≤ s .k * n = mul-le-mul-right n two in
+  -- rows that the run's table takes leave room for the total
+  pub lines-fit : (rows probes : ℕ) (total : Total) → length (tableOf (sizesOf s) cells) ≤ room (overlay s cells) table
+      → length (rowLines (layers s cells) (tableOf (sizesOf s) cells) ++ totalLine rows probes total) ≤ roomForAny
+  lines-fit rows probes total h =
+      let all = tableOf (sizesOf s) cells in
+      let n = length all in
+      let k = length (sizesOf s) in
+      let f = framed s cells sound .1 in
+      let c = cells-long k (lawful (sizesOf s) cells f .long) in
+      let q : n ≤ length table / k = omega arith in
+      let m : k * n ≤ runTableCells = le-trans (mul-le-mul-left {m = n} {n = runTableCells / k} k (rw long at q)) (mul-div-le runTableCells k) in
+      let t : 2 * n ≤ k * n = mul-le-mul-right n (f .some) in
       omega (
         arith,
-        length-append (rowLines (layers s cells) (tableOf s cells)) (totalLine rows probes area),
-        rows-few (layers s cells) (tableOf s cells),
-        total-few rows probes area,
+        length-append (rowLines (layers s cells) all) (totalLine rows probes total),
+        rows-few (layers s cells) all,
+        total-few rows probes total,
         c,
         m,
         t,
@@ -82,8 +90,8 @@ refused-room out cause h = record { fits = omega (arith, refused-few cause) }
 -- no report on a plan is longer
 pub plan-longest : (s : Shape) (cells : List ℤ) → Sound s cells → length (planReport s cells) ≤ roomForAny
 unfolding planReport
-plan-longest s cells sound = go (runCause s cells (sweepOrder cells) runTableCells) refl
+plan-longest s cells sound = go (runCause s cells (sweepOrder cells) emptyTable) refl
   where
-    go : (cause : ℕ) → runCause s cells (sweepOrder cells) runTableCells ≡ cause → length (onCause cause (tableReport s cells) refusedLine) ≤ roomForAny
-    go zero e = room s cells sound (sweepOrder cells) runTableCells refl lent-long _ _ _ (run-holds s cells (sweepOrder cells) runTableCells sound refl .succeeds .0 e)
+    go : (cause : ℕ) → runCause s cells (sweepOrder cells) emptyTable ≡ cause → length (onCause cause (tableReport s cells) refusedLine) ≤ roomForAny
+    go zero e = lines-fit s cells sound (sweepOrder cells) emptyTable refl empty-long _ _ _ (run-holds s cells (sweepOrder cells) emptyTable sound (order-passes s cells (sound .passed)) .succeeds .0 e)
     go (suc cause) e = omega (arith, refused-few (suc cause))

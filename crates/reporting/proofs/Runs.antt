@@ -8,9 +8,10 @@ use lib.IntN.{ℤ}
 use lib.ListN.{length}
 use Rattle.lists.proofs.Tests.{clash}
 use Rattle.lists.proofs.Lists.{all-of-mem}
+use Rattle.totals.specs.declared.Total.{Total}
 use Rattle.plan.specs.declared.Shape.{Shape}
 use Rattle.plan.specs.Causes.{onCause}
-use Rattle.plan.specs.Plan.{layers, Sound}
+use Rattle.plan.specs.Plan.{sizesOf, layers, Sound}
 use Rattle.sweep.specs.Sweep.{sweepOrder}
 use Rattle.plan.proofs.Plan.{framed}
 use Rattle.join.specs.Table.{tableOf}
@@ -18,36 +19,40 @@ use Rattle.join.proofs.Theorems.{tables}
 use Rattle.rows.proofs.Theorems as Row
 use Rattle.paging.specs.declared.Run.{Run}
 use Rattle.paging.specs.declared.Run.the-variants.{Refused, Done}
-use Rattle.paging.specs.Calls.{runCause, refusedRun, runCall, runTable, runValues, runAnswer}
+use Rattle.paging.specs.Calls.{runCause, runCall, runTable, runValues}
 use Rattle.paging.specs.Theorems.{rowsIn}
+use Rattle.sweep.proofs.Theorems.{order-passes}
 use Rattle.paging.proofs.Runs.{run-holds}
 use Rattle.printing.specs.Lines.{rowLines, totalLine, refusedLine}
 use Rattle.printing.specs.Parts.{Rows, Room}
-use Rattle.reporting.specs.Report.{runTableCells, tableReport, roomForAny}
+use Rattle.reporting.specs.Report.{runTableCells, emptyTable, tableReport, roomForAny}
 use Rattle.reporting.specs.Parts.{Ran, planReport}
-use Rattle.reporting.proofs.Reports.{same-cause, room}
+use Rattle.reporting.proofs.Reports.{same-cause, lines-fit}
 
 -- ---- the whole run's answers
 abbrev is-done : Run → Bool
 is-done (Refused cause) = false
-is-done (Done rows probes area) = true
+is-done (Done rows probes total) = true
 
-module _ (rows probes area : ℕ) {A : Type 0} (printed : A) (line : ℕ → A) where
+module _ (rows probes : ℕ) (total : Total) where
+  -- its answer for a cause
+  abbrev answered : ℕ → Run
+  answered cause = onCause cause (Done rows probes total) (λ n. Refused n)
+
   -- a refusal has its cause's number
-  refusal : (cause c : ℕ) → Refused c ≡ runAnswer (onCause cause (record { number = 0; rows = rows; probes = probes; area = area }) refusedRun) → onCause cause printed line ≡ line c
-  refusal zero c e = clash refl (sym (ap is-done e))
-  refusal (suc cause) c e = ap line (sym (ap (λ (r : Run). runValues r .number) e))
+  refusal : {A : Type 0} (printed : A) (line : ℕ → A) (cause c : ℕ) → Refused c ≡ answered cause → onCause cause printed line ≡ line c
+  refusal printed line zero c e = clash refl (sym (ap is-done e))
+  refusal printed line (suc cause) c e = ap line (sym (ap (λ (r : Run). runValues r .number) e))
 
-  success : (cause r p a : ℕ) → Done r p a ≡ runAnswer (onCause cause (record { number = 0; rows = rows; probes = probes; area = area }) refusedRun)
-      → (cause ≡ 0) × (r ≡ rows) × (p ≡ probes) × (a ≡ area)
-  success zero r p a e =
+  success : (cause r p : ℕ) (t : Total) → Done r p t ≡ answered cause → (cause ≡ 0) × (r ≡ rows) × (p ≡ probes) × (t ≡ total)
+  success zero r p t e =
       (refl, ap (λ (x : Run). runValues x .rows) e, ap (λ (x : Run). runValues x .probes) e, ap (λ (x : Run). runValues x .area) e)
-  success (suc cause) r p a e = clash (sym (ap is-done e)) refl
+  success (suc cause) r p t e = clash (sym (ap is-done e)) refl
 
 -- the run's answer and its table
 pub ran : (s : Shape) (cells : List ℤ) (order lent : List ℕ) (run : Run) (table : List ℕ)
-    → Sound s cells → order ≡ sweepOrder cells → length lent ≡ 12288
-    → run ≡ runAnswer (runCall s cells order lent) → table ≡ runTable s cells order lent → Ran s cells run table
+    → Sound s cells → order ≡ sweepOrder cells → length lent ≡ runTableCells
+    → run ≡ runCall s cells order lent → table ≡ runTable s cells order lent → Ran s cells run table
 ran s cells order lent run table sound o long e f =
     record { sound = sound; lent = lent; long = long; answer = rw o at e; filled = rw o at f }
 
@@ -56,39 +61,39 @@ module _ (s : Shape) (cells : List ℤ) (run : Run) (table : List ℕ) (h : Ran 
   pub refused-report : (c : ℕ) → run ≡ Refused c → planReport s cells ≡ refusedLine c
   unfolding runCall planReport
   refused-report c e =
-      refusal _ _ _ (tableReport s cells) refusedLine (runCause s cells (sweepOrder cells) runTableCells) c
+      refusal _ _ _ (tableReport s cells) refusedLine (runCause s cells (sweepOrder cells) emptyTable) c
       (rw (same-cause s cells (h .sound) (sweepOrder cells) (h .lent) refl (h .long)) at (sym e ∙ h .answer))
 
-  module _ (rows probes area : ℕ) (e : run ≡ Done rows probes area) where
+  module _ (rows probes : ℕ) (total : Total) (e : run ≡ Done rows probes total) where
     -- what is printed where it succeeds, and the rows that the table has
     record Told : Type 0 where
-      is : planReport s cells ≡ rowLines (layers s cells) (tableOf s cells) ++ totalLine rows probes area
-      read : rowsIn (s .k) rows table ≡ tableOf s cells
-      short : length (rowLines (layers s cells) (tableOf s cells) ++ totalLine rows probes area) ≤ roomForAny
+      is : planReport s cells ≡ rowLines (layers s cells) (tableOf (sizesOf s) cells) ++ totalLine rows probes total
+      read : rowsIn (s .k) rows table ≡ tableOf (sizesOf s) cells
+      short : length (rowLines (layers s cells) (tableOf (sizesOf s) cells) ++ totalLine rows probes total) ≤ roomForAny
 
     told : Told
     unfolding runCall planReport
     told =
         let order = sweepOrder cells in
         let lent = h .lent in
-        let d = success _ _ _ (tableReport s cells) refusedLine (runCause s cells order lent) rows probes area (sym e ∙ h .answer) in
-        let z : runCause s cells order runTableCells ≡ 0 = sym (same-cause s cells (h .sound) order lent refl (h .long)) ∙ d .0 in
-        let r = run-holds s cells order lent (h .sound) refl in
+        let d = success _ _ _ (runCause s cells order lent) rows probes total (sym e ∙ h .answer) in
+        let z : runCause s cells order emptyTable ≡ 0 = sym (same-cause s cells (h .sound) order lent refl (h .long)) ∙ d .0 in
+        let r = run-holds s cells order lent (h .sound) (order-passes s cells (h .sound .passed)) in
         record {
           is = rw (z, d .1, d .2, d .3);
           read = rw (h .filled, d .1) (rw (d .0) at (r .rows (d .0)));
-          short = room s cells (h .sound) order lent refl (h .long) rows probes area (r .succeeds .0 (d .0));
+          short = lines-fit s cells (h .sound) order lent refl (h .long) rows probes total (r .succeeds .0 (d .0));
         }
 
-    pub printed : planReport s cells ≡ rowLines (layers s cells) (rowsIn (s .k) rows table) ++ totalLine rows probes area
+    pub printed : planReport s cells ≡ rowLines (layers s cells) (rowsIn (s .k) rows table) ++ totalLine rows probes total
     printed = rw (told .read) (told .is)
 
     -- what is asked for where the lines are put
     pub rows-run : Rows (s .sizes) (s .k) cells table rows
     rows-run =
         let f = framed s cells (h .sound) in
-        let t = tables .tables s cells (h .sound) in
-        record { inside = f .0; framed = f .1; all = rw (told .read) (all-of-mem (tableOf s cells) (λ row m. Row.rows .rows s cells (h .sound) .names row .1 (t .is .sound row m))) }
+        let t = tables .tables (sizesOf s) cells (f .1) in
+        record { inside = f .0; framed = f .1; all = rw (told .read) (all-of-mem (tableOf (sizesOf s) cells) (λ row m. Row.rows .rows s cells (h .sound) .names row .1 (t .is .sound row m))) }
 
-    pub lines-room : (out : List ℕ) → roomForAny ≤ length out → Room out 0 (rowLines (layers s cells) (rowsIn (s .k) rows table) ++ totalLine rows probes area)
+    pub lines-room : (out : List ℕ) → roomForAny ≤ length out → Room out 0 (rowLines (layers s cells) (rowsIn (s .k) rows table) ++ totalLine rows probes total)
     lines-room out k = rw (told .read) (record { fits = omega (arith, told .short) })

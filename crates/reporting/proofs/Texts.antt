@@ -10,6 +10,7 @@ use lib.Seq.{take-at}
 use borrow.Author.Tests.{le-leb, lt-leb}
 use Rattle.lists.specs.Lists.{sum}
 use Rattle.lists.proofs.Tests.{total}
+use Rattle.plan.specs.Limits.{mostCells}
 use Rattle.text.specs.declared.Reading.{Reading}
 use Rattle.text.specs.Reader.{readCause, textShape, textCells, readAnswer, cellsAfter}
 use Rattle.text.proofs.Theorems.{round-trip}
@@ -26,12 +27,12 @@ unfolding reportOf reportCause
 long-text t h = rw (lt-leb (length t) 65536 h)
 
 module _ (t : List ℕ) (short : length t ≤ 65536) where
-  pub refused-text : (n : ℕ) → n ≡ readCause 12288 t → (n ≡ 0 → ⊥) → reportOf t ≡ refusedLine n
+  pub refused-text : (n : ℕ) → n ≡ readCause mostCells t → (n ≡ 0 → ⊥) → reportOf t ≡ refusedLine n
   unfolding reportOf reportCause
   refused-text zero e h = absurd (h refl)
   refused-text (suc n) e h = rw (le-leb (length t) 65536 short, ← e)
 
-  pub plan-text : readCause 12288 t ≡ 0 → reportOf t ≡ planReport (textShape t) (textCells t)
+  pub plan-text : readCause mostCells t ≡ 0 → reportOf t ≡ planReport (textShape t) (textCells t)
   unfolding reportOf reportCause planReport
   plan-text e = rw (le-leb (length t) 65536 short, e)
 
@@ -39,21 +40,21 @@ module _ (t : List ℕ) (short : length t ≤ 65536) where
 pub never-longer : (t : List ℕ) → length (reportOf t) ≤ roomForAny
 never-longer t = go (total (length t) 65536)
   where
-    read : length t ≤ 65536 → (n : ℕ) → n ≡ readCause 12288 t → length (reportOf t) ≤ roomForAny
-    read h zero e = rw (plan-text t h (sym e)) (plan-longest (textShape t) (textCells t) (round-trip .only 12288 t (sym e) .sound))
+    read : length t ≤ 65536 → (n : ℕ) → n ≡ readCause mostCells t → length (reportOf t) ≤ roomForAny
+    read h zero e = rw (plan-text t h (sym e)) (plan-longest (textShape t) (textCells t) (round-trip .only mostCells t (sym e) .sound))
     read h (suc n) e = rw (refused-text t h (suc n) e (λ z. omega (arith, z))) (omega (arith, refused-few (suc n)))
 
     go : (length t ≤ 65536) ⊎ (65536 < length t) → length (reportOf t) ≤ roomForAny
-    go (inl h) = read h (readCause 12288 t) refl
+    go (inl h) = read h (readCause mostCells t) refl
     go (inr h) = rw (long-text t h) (omega (arith, refused-few 13))
 
--- ---- what the reader answers where 12,288 cells are lent
-module _ (t : List ℕ) (cells : List ℤ) (r : Reading) (short : length t ≤ 65536) (long : length cells ≡ 12288) (e : r ≡ readAnswer (length cells) t) (f : r .number ≡ readCause (length cells) t) where
+-- ---- what the reader answers where cells for any plan are lent
+module _ (t : List ℕ) (cells : List ℤ) (r : Reading) (short : length t ≤ 65536) (long : length cells ≡ mostCells) (e : r ≡ readAnswer (length cells) t) (f : r .number ≡ readCause (length cells) t) where
   pub refused-reading : (r .number ≡ 0 → ⊥) → reportOf t ≡ refusedLine (r .number)
   refused-reading h = refused-text t short (r .number) (rw long at f) h
 
   module _ (after : List ℤ) (h : r .number ≡ 0) (g : after ≡ cellsAfter t cells) where
-    accepted : readCause 12288 t ≡ 0
+    accepted : readCause mostCells t ≡ 0
     accepted = sym (rw long at f) ∙ h
 
     -- the shape and the cells of the text's plan
@@ -64,11 +65,11 @@ module _ (t : List ℕ) (cells : List ℤ) (r : Reading) (short : length t ≤ 6
     cells-read = g ∙ rw (long, accepted)
 
     first-read : first (r .shape) after ≡ textCells t
-    first-read = rw (shape-read, cells-read) (take-at (textCells t) (drop (length (textCells t)) cells) (4 * sum (textShape t .sizes)) (round-trip .only 12288 t accepted .four))
+    first-read = rw (shape-read, cells-read) (take-at (textCells t) (drop (length (textCells t)) cells) (4 * sum (textShape t .sizes)) (round-trip .only mostCells t accepted .four))
 
     pub plan-lent : Lent (r .shape) after
     plan-lent =
-        let p = round-trip .only 12288 t accepted in
+        let p = round-trip .only mostCells t accepted in
         record {
           fits = rw (shape-read, cells-read) (omega (arith, p .four, length-append (textCells t) (drop (length (textCells t)) cells)));
           sound = rw (first-read, shape-read) (p .sound);

@@ -8,46 +8,51 @@ use native.Mathlib.Omega.{arith}
 use lib.IntN.{ℤ}
 use lib.ListN.{length}
 use borrow.Author.Tests.{le-leb, lt-leb}
-use Rattle.lists.specs.Lists.{sum}
+use Rattle.totals.specs.Totals.{totalOf}
 use Rattle.lists.proofs.Tests.{total}
 use Rattle.plan.specs.declared.Shape.{Shape}
-use Rattle.plan.specs.Plan.{layers, Sound}
+use Rattle.plan.specs.Limits.{mostCells}
+use Rattle.plan.specs.Plan.{sizesOf, layers, Sound}
 use Rattle.join.specs.Join.{areaIn}
 use Rattle.join.specs.Table.{tableOf}
 use Rattle.walk.specs.Walk.{walkOf}
-use Rattle.paging.specs.Calls.{capacity, runCause, runCall}
-use Rattle.paging.proofs.Causes.{fresh-passes}
+use Rattle.paging.specs.Pages.{room}
+use Rattle.paging.specs.Calls.{runCause, runCall}
+use Rattle.sweep.proofs.Theorems.{order-passes}
+use Rattle.plan.proofs.Theorems.{plans}
 use Rattle.text.specs.Reader.{readCause, textShape, textCells}
 use Rattle.text.specs.Theorems.{PlanText}
 use Rattle.text.proofs.Text.{measured}
 use Rattle.text.proofs.Theorems.{Verdict, not-formed, no-plan, of, verdict, shape-back, cells-back, round-trip}
 use Rattle.printing.specs.Lines.{rowLines, totalLine, refusedLine}
-use Rattle.reporting.specs.Report.{runTableCells, reportOf}
+use Rattle.reporting.specs.Report.{emptyTable, reportOf}
 use Rattle.reporting.specs.Parts.{planReport}
 use Rattle.reporting.specs.Theorems.{Prints, Reports}
 use Rattle.reporting.specs.Theorems as Theorems
-use Rattle.reporting.proofs.Reports.{lent-long}
+use Rattle.reporting.proofs.Reports.{empty-long}
 use Rattle.reporting.proofs.Texts.{long-text, refused-text, plan-text, never-longer}
+use Rattle.paging.specs.Overlays.{overlay}
+use Rattle.lists.specs.Lists.{sum}
 
 module _ (s : Shape) (cells : List ℤ) (sound : Sound s cells) where
   -- a table of 12,288 cells takes that many over k rows
-  rooms : capacity s runTableCells ≡ 12288 / s .k
-  rooms = rw lent-long (omega (arith, div-le-self 12288 (s .k)))
+  rooms : room (overlay s cells) emptyTable ≡ 12288 / s .k
+  rooms = rw (plans .frames s cells sound .2, empty-long) (omega (arith, div-le-self 12288 (s .k)))
 
-  full-report : 12288 / s .k < length (tableOf s cells) → planReport s cells ≡ refusedLine 7
+  full-report : 12288 / s .k < length (tableOf (sizesOf s) cells) → planReport s cells ≡ refusedLine 7
   unfolding planReport runCause
-  full-report h = rw (fresh-passes s cells (sound .passed), rooms, lt-leb (length (tableOf s cells)) (12288 / s .k) h)
+  full-report h = rw (order-passes s cells (sound .passed), rooms, lt-leb (length (tableOf (sizesOf s) cells)) (12288 / s .k) h)
 
-  table-report : length (tableOf s cells) ≤ 12288 / s .k
-      → planReport s cells ≡ rowLines (layers s cells) (tableOf s cells) ++ totalLine (length (tableOf s cells)) (length (walkOf s cells)) (sum (map (areaIn (layers s cells)) (tableOf s cells)))
+  table-report : length (tableOf (sizesOf s) cells) ≤ 12288 / s .k
+      → planReport s cells ≡ rowLines (layers s cells) (tableOf (sizesOf s) cells) ++ totalLine (length (tableOf (sizesOf s) cells)) (length (walkOf (sizesOf s) cells)) (totalOf (sum (map (areaIn (layers s cells)) (tableOf (sizesOf s) cells))))
   unfolding planReport runCause runCall
-  table-report h = rw (fresh-passes s cells (sound .passed), rooms, le-leb (length (tableOf s cells)) (12288 / s .k) h)
+  table-report h = rw (order-passes s cells (sound .passed), rooms, le-leb (length (tableOf (sizesOf s) cells)) (12288 / s .k) h)
 
 -- the text of a plan is accepted, and the report is the plan's
 of-plan : (t : List ℕ) → length t ≤ 65536 → (p : PlanText t) → reportOf t ≡ planReport (p .shape) (p .plan)
 of-plan t h p =
     let m = measured (p .shape) (p .plan) (p .sound) in
-    let e : readCause 12288 t ≡ 0 = round-trip .exactly 12288 t .1 (p, omega (arith, m .whole, m .few)) in
+    let e : readCause mostCells t ≡ 0 = round-trip .exactly mostCells t .1 (p, omega (arith, m .whole, m .few)) in
     let x : textShape t ≡ p .shape = ap textShape (p .text) ∙ shape-back (p .shape) (p .plan) (p .sound) in
     let y : textCells t ≡ p .plan = ap textCells (p .text) ∙ cells-back (p .shape) (p .plan) (p .sound) in
     plan-text t h e ∙ rw (x, y)
@@ -55,17 +60,17 @@ of-plan t h p =
 prints : (t : List ℕ) → Prints t (reportOf t)
 prints t = size (total (length t) 65536)
   where
-    plan : length t ≤ 65536 → (p : PlanText t) → (length (tableOf (p .shape) (p .plan)) ≤ 12288 / p .shape .k) ⊎ (12288 / p .shape .k < length (tableOf (p .shape) (p .plan))) → Prints t (reportOf t)
+    plan : length t ≤ 65536 → (p : PlanText t) → (length (tableOf (sizesOf (p .shape)) (p .plan)) ≤ 12288 / p .shape .k) ⊎ (12288 / p .shape .k < length (tableOf (sizesOf (p .shape)) (p .plan))) → Prints t (reportOf t)
     plan h p (inl l) = rw (of-plan t h p, table-report (p .shape) (p .plan) (p .sound) l) (Theorems.table h p l)
     plan h p (inr g) = rw (of-plan t h p, full-report (p .shape) (p .plan) (p .sound) g) (Theorems.full h p g)
 
-    read : length t ≤ 65536 → Verdict 12288 t → Prints t (reportOf t)
+    read : length t ≤ 65536 → Verdict mostCells t → Prints t (reportOf t)
     read h (not-formed k x) = rw (refused-text t h 9 (sym k) (λ z. omega (arith, z))) (Theorems.unformed h x)
     read h (no-plan k w x) = rw (refused-text t h 10 (sym k) (λ z. omega (arith, z))) (Theorems.no-plan h w x)
-    read h (of p) = plan h p (total (length (tableOf (p .shape) (p .plan))) (12288 / p .shape .k))
+    read h (of p) = plan h p (total (length (tableOf (sizesOf (p .shape)) (p .plan))) (12288 / p .shape .k))
 
     size : (length t ≤ 65536) ⊎ (65536 < length t) → Prints t (reportOf t)
-    size (inl h) = read h (verdict 12288 t)
+    size (inl h) = read h (verdict mostCells t)
     size (inr h) = rw (long-text t h) (Theorems.long h)
 
 pub reports : Reports

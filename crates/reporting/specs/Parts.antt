@@ -10,13 +10,13 @@ use Rattle.plan.specs.Causes.{onCause}
 use Rattle.plan.specs.Plan.{Sound}
 use Rattle.sweep.specs.Sweep.{sweepOrder}
 use Rattle.paging.specs.declared.Run.{Run}
-use Rattle.paging.specs.Calls.{runCause, runCall, runTable, runAnswer}
+use Rattle.paging.specs.Calls.{runCause, runCall, runTable}
 use Rattle.printing.specs.Lines.{refusedLine}
-use Rattle.reporting.specs.Report.{runTableCells, tableReport}
+use Rattle.reporting.specs.Report.{runTableCells, emptyTable, tableReport}
 
 -- what is printed for a plan
 unfoldable pub planReport : Shape → List ℤ → List ℕ
-planReport s cells = onCause (runCause s cells (sweepOrder cells) runTableCells) (tableReport s cells) refusedLine
+planReport s cells = onCause (runCause s cells (sweepOrder cells) emptyTable) (tableReport s cells) refusedLine
 
 -- the first cells, four for each rectangle of a shape
 abbrev pub first : Shape → List ℤ → List ℤ
@@ -27,10 +27,10 @@ pub record Lent (s : Shape) (lent : List ℤ) : Type 0 where
   pub fits : 4 * sum (s .sizes) ≤ length lent
   pub sound : Sound s (first s lent)
 
--- a whole run of a sound plan, in its sweep order and into 12,288 cells: its answer, and the table that it left
+-- a whole run of a sound plan, in its sweep order and into `runTableCells` cells: its answer, and the table that it left
 pub record Ran (s : Shape) (cells : List ℤ) (run : Run) (table : List ℕ) : Type 0 where
   pub sound : Sound s cells
   pub lent : List ℕ
-  pub long : length lent ≡ 12288
-  pub answer : run ≡ runAnswer (runCall s cells (sweepOrder cells) lent)
+  pub long : length lent ≡ runTableCells
+  pub answer : run ≡ runCall s cells (sweepOrder cells) lent
   pub filled : table ≡ runTable s cells (sweepOrder cells) lent

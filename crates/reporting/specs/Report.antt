@@ -7,33 +7,30 @@ use lib.IntN.{ℤ}
 use lib.ListN.{length, drop, replicate}
 use Rattle.plan.specs.declared.Shape.{Shape}
 use Rattle.plan.specs.Causes.{unless, _orElse_, onCause}
-use Rattle.plan.specs.Plan.{layers}
+use Rattle.plan.specs.Limits.{mostCells}
+use Rattle.plan.specs.Plan.{sizesOf, layers}
 use Rattle.sweep.specs.Sweep.{sweepOrder}
 use Rattle.join.specs.Table.{tableOf}
-use Rattle.paging.specs.Calls.{RunValues, runCause, runCall}
+use Rattle.paging.specs.Calls.{runValues, runCause, runCall}
 use Rattle.text.specs.Reader.{readCause, textShape, textCells}
 use Rattle.printing.specs.Lines.{rowLines, totalLine, refusedLine}
 
 -- 01: "makes a whole run into 12,288 cells"
-unfoldable pub runTableCells : List ℕ
-runTableCells = replicate 12288 0
+abbrev pub runTableCells : ℕ
+runTableCells = 12288
 
--- the cells that the reader is lent: four for each of six times 512 rectangles, so that every plan fits
-abbrev pub planRoom : ℕ
-planRoom = 12288
+-- the table before the run
+unfoldable pub emptyTable : List ℕ
+emptyTable = replicate runTableCells 0
 
--- the whole run of a plan, in its sweep order
-abbrev pub planRun : Shape → List ℤ → RunValues
-planRun s cells = runCall s cells (sweepOrder cells) runTableCells
-
--- the lines of all rows, and the total; printed only where the run is not refused, and its counts are those of these rows
+-- the lines of all rows, and the total of the whole run in sweep order; printed only where the run is not refused, and its counts are those of these rows
 abbrev pub tableReport : Shape → List ℤ → List ℕ
-tableReport s cells = let v = planRun s cells in rowLines (layers s cells) (tableOf s cells) ++ totalLine (v .rows) (v .probes) (v .area)
+tableReport s cells = let v = runValues (runCall s cells (sweepOrder cells) emptyTable) in rowLines (layers s cells) (tableOf (sizesOf s) cells) ++ totalLine (v .rows) (v .probes) (v .area)
 
--- 13, "input above 65,536 bytes", comes "before all others"; then the reader's causes; then those of the whole run
+-- 13, "input above 65,536 bytes", comes "before all others"; then the reader's causes, where it is lent cells for any plan; then those of the whole run
 unfoldable pub reportCause : List ℕ → ℕ
 reportCause t =
-    unless (leb (length t) 65536) 13 orElse readCause planRoom t orElse runCause (textShape t) (textCells t) (sweepOrder (textCells t)) runTableCells
+    unless (leb (length t) 65536) 13 orElse readCause mostCells t orElse runCause (textShape t) (textCells t) (sweepOrder (textCells t)) emptyTable
 
 -- what is printed for a text
 unfoldable pub reportOf : List ℕ → List ℕ

@@ -3,8 +3,10 @@ use libc::STDIN_FILENO;
 use libc::STDOUT_FILENO;
 use pager::run_all;
 use paging::Run;
+use plan::MOST_CELLS;
+use plan::MOST_RECTS;
 use plan::Shape;
-use plan::sum_of;
+use plan::count_of;
 use printing::put_refused;
 use printing::put_table;
 use sweep::make_order;
@@ -12,14 +14,18 @@ use text::read;
 ghost use mathlib.Core.Path.{_≡_};
 ghost use Prim.Native.Nat.{_≤_};
 ghost use lib.ListN.{length, take, replicate};
+ghost use Rattle.plan.specs.Limits.{mostCells};
 ghost use Rattle.plan.specs.Plan.{count, Sound};
 ghost use Rattle.sweep.specs.Sweep.{sweepOrder};
 ghost use Rattle.decimal.specs.Stores.{Put};
-ghost use Rattle.reporting.specs.Report.{roomForAny, reportOf, putInto, outAfter};
+ghost use Rattle.reporting.specs.Report.{runTableCells, roomForAny, reportOf, putInto, outAfter};
 ghost use Rattle.reporting.specs.Parts.{first, Lent, Ran, planReport};
 
 // The longest input.
 const LONGEST_INPUT: usize = 65536;
+
+// The cells of the table that the whole run is made into.
+const RUN_TABLE_CELLS: usize = 12288;
 
 // Room for any report.
 const ROOM_FOR_ANY: usize = 655360;
@@ -72,13 +78,13 @@ fn report_on(text: &[u8], out: &mut [u8]) -> usize
     if LONGEST_INPUT < text.len() {
         return put_refused(out, 0, 13);
     }
-    let mut cells = [0i32; 12288];
+    let mut cells = [0i32; MOST_CELLS];
     report_text(text, &mut cells, out)
 }
 
 // The report on a text that is not too long, with the cells that it is read into.
 fn report_text(text: &[u8], cells: &mut [i32], out: &mut [u8]) -> usize
-    requires { ⌜ (length (now text) ≤ 65536) × (length (now cells) ≡ 12288) × (roomForAny ≤ length (now out)) ⌝ }
+    requires { ⌜ (length (now text) ≤ 65536) × (length (now cells) ≡ mostCells) × (roomForAny ≤ length (now out)) ⌝ }
     ensures { λ r. ⌜ Put (now (out .entry)) 0 (reportOf (now (text .entry))) (now (out .exit)) r ⌝ }
 {
     let reading = read(text, cells);
@@ -93,9 +99,9 @@ fn report_plan(shape: Shape, lent: &[i32], out: &mut [u8]) -> usize
     requires { ⌜ Lent shape (now lent) × (roomForAny ≤ length (now out)) ⌝ }
     ensures { λ r. ⌜ Put (now (out .entry)) 0 (planReport shape (first shape (now (lent .entry)))) (now (out .exit)) r ⌝ }
 {
-    let n = 4 * sum_of(&shape.sizes);
-    let mut order = [0u32; 3072];
-    let mut table = [0u32; 12288];
+    let n = 4 * count_of(shape);
+    let mut order = [0u32; MOST_RECTS];
+    let mut table = [0u32; RUN_TABLE_CELLS];
     report_cells(shape, &lent[..n], &mut order, &mut table, out)
 }
 
@@ -107,7 +113,7 @@ fn report_cells(
     table: &mut [u32],
     out: &mut [u8],
 ) -> usize
-    requires { ⌜ Sound shape (now cells) × (count (now cells) ≤ length (now order)) × (length (now table) ≡ 12288) × (roomForAny ≤ length (now out)) ⌝ }
+    requires { ⌜ Sound shape (now cells) × (count (now cells) ≤ length (now order)) × (length (now table) ≡ runTableCells) × (roomForAny ≤ length (now out)) ⌝ }
     ensures { λ r. ⌜ Put (now (out .entry)) 0 (planReport shape (now (cells .entry))) (now (out .exit)) r ⌝ }
 {
     let n = cells.len() / 4;
@@ -122,7 +128,7 @@ fn report_sound(
     table: &mut [u32],
     out: &mut [u8],
 ) -> usize
-    requires { ⌜ Sound shape (now cells) × (length (now order) ≡ count (now cells)) × (length (now table) ≡ 12288) × (roomForAny ≤ length (now out)) ⌝ }
+    requires { ⌜ Sound shape (now cells) × (length (now order) ≡ count (now cells)) × (length (now table) ≡ runTableCells) × (roomForAny ≤ length (now out)) ⌝ }
     ensures { λ r. ⌜ Put (now (out .entry)) 0 (planReport shape (now (cells .entry))) (now (out .exit)) r ⌝ }
 {
     make_order(shape, cells, order);
@@ -137,7 +143,7 @@ fn report_ordered(
     table: &mut [u32],
     out: &mut [u8],
 ) -> usize
-    requires { ⌜ Sound shape (now cells) × (now order ≡ sweepOrder (now cells)) × (length (now table) ≡ 12288) × (roomForAny ≤ length (now out)) ⌝ }
+    requires { ⌜ Sound shape (now cells) × (now order ≡ sweepOrder (now cells)) × (length (now table) ≡ runTableCells) × (roomForAny ≤ length (now out)) ⌝ }
     ensures { λ r. ⌜ Put (now (out .entry)) 0 (planReport shape (now (cells .entry))) (now (out .exit)) r ⌝ }
 {
     let run = run_all(shape, cells, order, table);
@@ -151,7 +157,7 @@ fn report_run(run: Run, shape: Shape, cells: &[i32], table: &[u32], out: &mut [u
 {
     match run {
         Run::Refused(cause) => put_refused(out, 0, cause),
-        Run::Done(rows, probes, area) => put_table(
+        Run::Done(rows, probes, total) => put_table(
             out,
             &shape.sizes,
             shape.k as usize,
@@ -159,7 +165,7 @@ fn report_run(run: Run, shape: Shape, cells: &[i32], table: &[u32], out: &mut [u
             table,
             rows,
             probes,
-            area,
+            total,
         ),
     }
 }

@@ -2,102 +2,92 @@
 use mathlib.Core.Path.{_≡_, refl, ap, ap₂, _∙_}
 use mathlib.Core.List.{List, [], _∷_}
 use mathlib.Core.Bool.{Bool, true, false, cond, _&&_}
-use Prim.Native.Nat.{ℕ, zero, suc, _+_, _*_, _≤_, _<_}
+use Prim.Native.Nat.{ℕ, zero, suc, _+_, _≤_, _<_}
 use native.Mathlib.Omega.{arith}
 use native.Mathlib.Numerals.{add-one}
 use lib.IntN.{ℤ}
-use lib.ListN.{length, take, drop}
-use Rattle.lists.proofs.Tests.{clash}
-use Rattle.geometry.specs.declared.Rect.{Rect}
+use lib.ListN.{length}
 use Rattle.geometry.specs.Rectangles.{nonempty, areaOf}
 use Rattle.plan.specs.declared.Shape.{Shape}
-use Rattle.plan.specs.Plan.{rectAt, layersOf, layers, planCause, Sound}
+use Rattle.plan.specs.Plan.{layersOf, layers, planCause, Sound, Layer}
 use Rattle.rows.specs.declared.Ground.{Ground}
+use Rattle.rows.specs.declared.Sharing.{Sharing}
 use Rattle.rows.specs.declared.Sharing.the-variants.{Nothing, Shared}
 use Rattle.rows.specs.declared.RowAnswer.{RowAnswer}
 use Rattle.rows.specs.declared.RowAnswer.the-variants.{Refused, NoRow, Row}
-use Rattle.join.specs.Join.{rects, commonOf, areaIn, guardLayer}
-use Rattle.rows.specs.Grounds.{sharedBy}
-use Rattle.rows.specs.RowCall.{fits, isRow, noRow, told, rowCall, rowValues, rowAnswer}
+use Rattle.join.specs.Join.{_below_, rects, commonOf, areaIn, guardLayer, Within}
+use Rattle.rows.specs.Grounds.{sharedBy, groundOf}
+use Rattle.rows.specs.RowCall.{fits, isRow, told, rowCall}
 use Rattle.join.proofs.Join.{guard-is}
-use Rattle.rows.proofs.RowCall.{sizes-of}
+use Rattle.rows.proofs.RowCall.{sizes-of, is-row}
+use Rattle.join.proofs.Table.{within-long}
 
--- ---- what is shared
-module _ (rs : List Rect) where
-  pub shared-nothing : Nothing ≡ sharedBy rs → nonempty (commonOf rs) ≡ false
-  unfolding sharedBy
-  shared-nothing e = go (nonempty (commonOf rs)) e
-    where
-      go : (t : Bool) → Nothing ≡ cond t (Shared (record { common = commonOf rs; guard = guardLayer rs })) Nothing → t ≡ false
-      go true q = let z : _≡_ {A = ℕ} 0 1 = cc in absurd (omega arith)
-      go false q = refl
-
-  pub shared-ground : (g : Ground) → Shared g ≡ sharedBy rs → (nonempty (commonOf rs) ≡ true) × (g ≡ record { common = commonOf rs; guard = guardLayer rs })
-  unfolding sharedBy
-  shared-ground g e = go (nonempty (commonOf rs)) e
-    where
-      go : (t : Bool) → Shared g ≡ cond t (Shared (record { common = commonOf rs; guard = guardLayer rs })) Nothing → (t ≡ true) × (g ≡ record { common = commonOf rs; guard = guardLayer rs })
-      go true q = (refl, cc)
-      go false q = let z : _≡_ {A = ℕ} 0 1 = cc in absurd (omega arith)
-
--- ---- the cells of a plan that is let through
+-- ---- the cells of layers
 module _ (sizes : List ℕ) (cells : List ℤ) (row : List ℕ) where
   is-row-of : (t u : Bool) → fits sizes row ≡ t → nonempty (commonOf (rects (layersOf sizes cells) row)) ≡ u → isRow (layersOf sizes cells) row ≡ (t && u)
   unfolding isRow
   is-row-of t u e f = ap₂ _&&_ (ap (λ (ns : List ℕ). fits ns row) (sizes-of sizes cells) ∙ e) f
 
-  pub told-misfit : fits sizes row ≡ false → NoRow ≡ rowAnswer (told (layersOf sizes cells) row)
+  -- cells that do not fit have no ground
+  pub ground-misfit : fits sizes row ≡ false → Nothing ≡ groundOf (layersOf sizes cells) row
+  unfolding groundOf
+  ground-misfit e = rw (is-row-of false _ e refl)
+
+  -- the ground of cells that fit is what their rectangles share
+  pub ground-fit : fits sizes row ≡ true → (v : Sharing) → v ≡ sharedBy (rects (layersOf sizes cells) row) → v ≡ groundOf (layersOf sizes cells) row
+  unfolding groundOf sharedBy
+  ground-fit e v q = q ∙ rw (is-row-of true _ e refl)
+
+-- ---- what the ground tells of a row
+module _ (ls : List Layer) (row : List ℕ) where
+  pub ground-none : Nothing ≡ groundOf ls row → isRow ls row ≡ false
+  unfolding groundOf
+  ground-none e = go (isRow ls row) e
+    where
+      go : (t : Bool) → Nothing ≡ cond t (Shared (record { common = commonOf (rects ls row); guard = guardLayer (rects ls row) })) Nothing → t ≡ false
+      go true q = let z : _≡_ {A = ℕ} 0 1 = cc in absurd (omega arith)
+      go false q = refl
+
+  pub ground-some : (g : Ground) → Shared g ≡ groundOf ls row → (isRow ls row ≡ true) × (g ≡ record { common = commonOf (rects ls row); guard = guardLayer (rects ls row) })
+  unfolding groundOf
+  ground-some g e = go (isRow ls row) e
+    where
+      go : (t : Bool) → Shared g ≡ cond t (Shared (record { common = commonOf (rects ls row); guard = guardLayer (rects ls row) })) Nothing → (t ≡ true) × (g ≡ record { common = commonOf (rects ls row); guard = guardLayer (rects ls row) })
+      go true q = (refl, cc)
+      go false q = let z : _≡_ {A = ℕ} 0 1 = cc in absurd (omega arith)
+
+  pub told-none : Nothing ≡ groundOf ls row → NoRow ≡ told ls row
   unfolding told
-  told-misfit e = rw (is-row-of false _ e refl)
+  told-none e = rw (ground-none e)
 
-  module _ (fit : fits sizes row ≡ true) where
-    pub told-apart : Nothing ≡ sharedBy (rects (layersOf sizes cells) row) → NoRow ≡ rowAnswer (told (layersOf sizes cells) row)
+  module _ (g : Ground) (made : Shared g ≡ groundOf ls row) where
+    -- the guard's layer, from 1, and the area
+    pub ground-layer : g .guard + 1 ≡ suc (guardLayer (rects ls row))
+    ground-layer = add-one (g .guard) ∙ ap (λ (z : Ground). suc (z .guard)) (ground-some g made .1)
+
+    pub ground-area : (a : ℕ) → a ≡ areaOf (g .common) → a ≡ areaIn ls row
+    unfolding areaIn
+    ground-area a q = q ∙ ap (λ (z : Ground). areaOf (z .common)) (ground-some g made .1)
+
+    pub told-some : (a : ℕ) → a ≡ areaOf (g .common) → Row (g .guard + 1) a ≡ told ls row
     unfolding told
-    told-apart e = rw (is-row-of true false fit (shared-nothing _ e))
+    told-some a q = rw (ground-some g made .0, ground-area a q, ground-layer)
 
-    module _ (g : Ground) (made : Shared g ≡ sharedBy (rects (layersOf sizes cells) row)) where
-      pub told-row : (a : ℕ) → a ≡ areaOf (g .common) → Row (g .guard + 1) a ≡ rowAnswer (told (layersOf sizes cells) row)
-      unfolding told areaIn
-      told-row a q =
-          let k = shared-ground _ g made in
-          let p : a ≡ areaOf (commonOf (rects (layersOf sizes cells) row)) = q ∙ ap (λ (z : Ground). areaOf (z .common)) (k .1) in
-          let n : g .guard + 1 ≡ suc (guardLayer (rects (layersOf sizes cells) row)) = add-one (g .guard) ∙ ap (λ (z : Ground). suc (z .guard)) (k .1) in
-          rw (is-row-of true true fit (k .0), p, n)
-
-      -- the guard's layer is one of the layers
-      pub guard-small : 1 ≤ length sizes → g .guard < length sizes
-      guard-small h = rw (shared-ground _ g made .1) (small sizes cells row h fit)
-        where
-          short : (ns : List ℕ) (cs : List ℤ) (ps : List ℕ) → length (rects (layersOf ns cs) ps) ≤ length ns
-          short [] cs ps = omega arith
-          short (n ∷ ns) cs [] = omega arith
-          short (n ∷ ns) cs (p ∷ ps) = omega (arith, short ns (drop (4 * n) cs) ps)
-
-          small : (ns : List ℕ) (cs : List ℤ) (ps : List ℕ) → 1 ≤ length ns → fits ns ps ≡ true → guardLayer (rects (layersOf ns cs) ps) < length ns
-          small [] cs ps h e = absurd (omega arith)
-          small (n ∷ ns) cs [] h e = clash e refl
-          small (n ∷ ns) cs (p ∷ ps) h e =
-              omega (arith, guard-is (rectAt (take (4 * n) cs) p) (rects (layersOf ns (drop (4 * n) cs)) ps) .one, short ns (drop (4 * n) cs) ps)
+    -- the guard's layer is one of the layers
+    pub ground-small : 1 ≤ length ls → g .guard < length ls
+    ground-small h = rw (ground-some g made .1) (small ls row h (is-row ls h row .0 (ground-some g made .0) .within))
+      where
+        small : (ls : List Layer) (ps : List ℕ) → 1 ≤ length ls → Within ls ps → guardLayer (rects ls ps) < length ls
+        small [] ps h w = absurd (omega arith)
+        small (l ∷ ls) ps h (_below_ {p = p} {row = qs} k ks) = omega (arith, guard-is (l .rect p) (rects ls qs) .one, within-long ks .0)
 
 -- ---- the answer
 module _ (s : Shape) (cells : List ℤ) (row : List ℕ) where
-  -- the promise of the row call
-  abbrev Answered : RowAnswer → Type 0
-  Answered r = (r ≡ rowAnswer (rowCall s cells row)) × (rowValues r ≡ rowCall s cells row)
-
-  pub row-refused : (n : ℕ) → n ≡ planCause s cells → (n ≡ 0 → ⊥) → Answered (Refused n)
+  pub row-refused : (n : ℕ) → n ≡ planCause s cells → (n ≡ 0 → ⊥) → Refused n ≡ rowCall s cells row
   unfolding rowCall
   row-refused zero e h = absurd (h refl)
-  row-refused (suc n) e h = rw (← e) (refl, refl)
+  row-refused (suc n) e h = rw (← e)
 
-  values-told : rowValues (rowAnswer (told (layers s cells) row)) ≡ told (layers s cells) row
-  unfolding told
-  values-told = go (isRow (layers s cells) row)
-    where
-      go : (t : Bool) → let v = cond t (record { number = 0; layer = suc (guardLayer (rects (layers s cells) row)); area = areaIn (layers s cells) row }) noRow in rowValues (rowAnswer v) ≡ v
-      go true = refl
-      go false = refl
-
-  pub row-accepted : (r : RowAnswer) → Sound s cells → r ≡ rowAnswer (told (layers s cells) row) → Answered r
+  pub row-accepted : (r : RowAnswer) → Sound s cells → r ≡ told (layers s cells) row → r ≡ rowCall s cells row
   unfolding rowCall
-  row-accepted r h e = rw (h .passed) (e, ap rowValues e ∙ values-told)
+  row-accepted r h e = rw (h .passed) e

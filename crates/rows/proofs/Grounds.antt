@@ -14,9 +14,9 @@ use Rattle.lists.proofs.Tests.{clash, never-true}
 use Rattle.geometry.specs.declared.Rect.{Rect}
 use Rattle.geometry.specs.declared.Meeting.{Meeting}
 use Rattle.geometry.specs.declared.Meeting.the-variants.{Apart, Common}
-use Rattle.geometry.specs.Rectangles.{maxZ, common, nonempty, meets, meeting, inRange}
+use Rattle.geometry.specs.Rectangles.{maxZ, common, nonempty, meets, meeting, extent, inExtent}
 use Rattle.geometry.proofs.Integers.{zarith}
-use Rattle.geometry.proofs.Rectangles.{max-law, range-nonempty, meeting-apart, meeting-common}
+use Rattle.geometry.proofs.Rectangles.{max-law, held-nonempty, meeting-apart, meeting-common}
 use Rattle.plan.specs.Plan.{rectAt, layersOf}
 use Rattle.plan.specs.Frames.{Framed}
 use Rattle.plan.proofs.Spots.{rect-take}
@@ -112,7 +112,7 @@ through-first (n ∷ ns) cells (p ∷ row) r f e q = record {
     solid : nonempty r ≡ true
     solid =
         let h = fits-at (n ∷ ns) (p ∷ row) 0 e (omega arith) in
-        range-nonempty r (ap inRange (q ∙ rect-take cells n p h) ∙ f .ranged p (omega arith))
+        held-nonempty extent r (ap inExtent (q ∙ rect-take cells n p h) ∙ f .ranged p (omega arith))
 
 module _ (sizes : List ℕ) (cells : List ℤ) (row : List ℕ) (g : Ground) (start j : ℕ) (t : Through sizes cells row g start j) (e : fits sizes row ≡ true) (h : j < length sizes) where
   pub sum-next : start + getD sizes j 0 + sum (drop (suc j) sizes) ≡ sum sizes

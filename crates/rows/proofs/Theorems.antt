@@ -8,23 +8,23 @@ use native.Mathlib.Omega.{arith}
 use lib.IntN.{ℤ}
 use Rattle.lists.proofs.Tests.{never-true}
 use Rattle.plan.specs.declared.Shape.{Shape}
-use Rattle.plan.specs.Plan.{sizesOf, layers, Sound}
+use Rattle.plan.specs.Plan.{planCause, sizesOf, layers, Sound}
 use Rattle.plan.proofs.Plan.{framed}
 use Rattle.plan.proofs.Spots.{layers-long}
 use Rattle.join.specs.Join.{rects, InJoin, areaIn, guardLayer}
 use Rattle.join.specs.Table.{tableOf}
-use Rattle.rows.specs.RowCall.{isRow, noRow, told, rowCall}
+use Rattle.rows.specs.RowCall.{isRow, told, rowCall, rowValues}
 use Rattle.join.specs.Theorems.{IsTable}
 use Rattle.join.proofs.Theorems.{tables}
 use Rattle.rows.proofs.RowCall.{is-row}
 use Rattle.rows.specs.Theorems.{Rows, RowsHold}
 
 module _ (s : Shape) (cells : List ℤ) (row : List ℕ) (sound : Sound s cells) where
-  call-row : isRow (layers s cells) row ≡ true → rowCall s cells row ≡ record { number = 0; layer = suc (guardLayer (rects (layers s cells) row)); area = areaIn (layers s cells) row }
+  call-row : isRow (layers s cells) row ≡ true → rowValues (rowCall s cells row) ≡ record { number = 0; layer = suc (guardLayer (rects (layers s cells) row)); area = areaIn (layers s cells) row }
   unfolding rowCall told
   call-row e = rw (sound .passed, e)
 
-  call-none : isRow (layers s cells) row ≡ false → rowCall s cells row ≡ noRow
+  call-none : isRow (layers s cells) row ≡ false → rowValues (rowCall s cells row) ≡ record { number = 0; layer = 0; area = 0 }
   unfolding rowCall told
   call-none e = rw (sound .passed, e)
 
@@ -35,11 +35,15 @@ rows-hold s cells sound = record {
   others = λ row m. call-none s cells row sound (never-true (isRow (layers s cells) row) (λ e. m (is .complete row (names row .0 e))));
 }
   where
-    is : IsTable (layers s cells) (tableOf s cells)
-    is = tables .tables s cells sound .is
+    is : IsTable (layers s cells) (tableOf (sizesOf s) cells)
+    is = tables .tables (sizesOf s) cells (framed s cells sound .1) .is
 
     names : (row : List ℕ) → (isRow (layers s cells) row ≡ true) ↔ InJoin (layers s cells) row
     names = is-row (layers s cells) (omega (arith, layers-long (sizesOf s) cells, framed s cells sound .1 .some))
 
+row-refusals : (s : Shape) (cells : List ℤ) (n : ℕ) → planCause s cells ≡ suc n → (row : List ℕ) → rowValues (rowCall s cells row) ≡ record { number = suc n; layer = 0; area = 0 }
+unfolding rowCall
+row-refusals s cells n e row = rw e
+
 pub rows : Rows
-rows = record { rows = rows-hold }
+rows = record { rows = rows-hold; refused = row-refusals }

@@ -1,14 +1,16 @@
--- What the functions of the row call promise one another; no public contract cites it.
+-- The ground of a row, as functions that look at rows hand it on; no public contract cites it.
 use mathlib.Core.List.{List}
 use mathlib.Core.Bool.{cond}
 use Prim.Native.Nat.{ℕ}
 use lib.Signed.{ltZ}
 use Rattle.geometry.specs.declared.Rect.{Rect}
 use Rattle.geometry.specs.Rectangles.{common, nonempty, meets}
+use Rattle.plan.specs.Plan.{Layer}
 use Rattle.rows.specs.declared.Ground.{Ground}
 use Rattle.rows.specs.declared.Sharing.{Sharing}
 use Rattle.rows.specs.declared.Sharing.the-variants.{Nothing, Shared}
-use Rattle.join.specs.Join.{commonOf, guardLayer}
+use Rattle.join.specs.Join.{rects, commonOf, guardLayer}
+use Rattle.rows.specs.RowCall.{isRow}
 
 -- the ground with one rectangle more, that of layer i: the guard is the first of the greatest lefts
 unfoldable pub takeIn : Ground → Rect → ℕ → Sharing
@@ -17,3 +19,7 @@ takeIn g r i = cond (meets (g .common) r) (Shared (record { common = common (g .
 -- what rectangles share
 unfoldable pub sharedBy : List Rect → Sharing
 sharedBy rs = cond (nonempty (commonOf rs)) (Shared (record { common = commonOf rs; guard = guardLayer rs })) Nothing
+
+-- the ground of the row that cells name: nothing where they name none
+unfoldable pub groundOf : List Layer → List ℕ → Sharing
+groundOf ls row = cond (isRow ls row) (Shared (record { common = commonOf (rects ls row); guard = guardLayer (rects ls row) })) Nothing

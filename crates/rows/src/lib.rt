@@ -14,8 +14,8 @@ ghost use lib.ListN.{length, take, drop};
 ghost use Rattle.plan.specs.Plan.{rectAt, layersOf};
 ghost use Rattle.plan.specs.Frames.{Framed};
 ghost use Rattle.join.specs.Join.{rects};
-ghost use Rattle.rows.specs.RowCall.{fits, told, rowCall, rowValues, rowAnswer};
-ghost use Rattle.rows.specs.Grounds.{takeIn, sharedBy};
+ghost use Rattle.rows.specs.RowCall.{fits, told, rowCall};
+ghost use Rattle.rows.specs.Grounds.{takeIn, sharedBy, groundOf};
 
 // What the row call answers.
 pub enum RowAnswer {
@@ -38,35 +38,42 @@ pub enum Sharing {
 
 // What the lent cells name in the table of a plan.
 pub fn row(shape: Shape, cells: &[i32], places: &[u32]) -> RowAnswer
-    ensures answer { λ r. ⌜ r ≡ rowAnswer (rowCall shape (now (cells .entry)) (now (places .entry))) ⌝ }
-    ensures values { λ r. ⌜ rowValues r ≡ rowCall shape (now (cells .entry)) (now (places .entry)) ⌝ }
+    ensures { λ r. ⌜ r ≡ rowCall shape (now (cells .entry)) (now (places .entry)) ⌝ }
 {
     let cause = plan_cause(shape, cells);
     if cause != 0 {
         return RowAnswer::Refused(cause);
     }
-    row_among(&shape.sizes, shape.k as usize, cells, places)
+    row_told(&shape.sizes, shape.k as usize, cells, places)
 }
 
-// The row among the first k layers of a sound plan.
-pub fn row_among(sizes: &[u32], k: usize, cells: &[i32], row: &[u32]) -> RowAnswer
+// What the cells name among the first k layers of a sound plan.
+fn row_told(sizes: &[u32], k: usize, cells: &[i32], places: &[u32]) -> RowAnswer
     requires { ⌜ (k ≤ length (now sizes)) × Framed (take k (now sizes)) (now cells) ⌝ }
-    ensures { λ r. ⌜ r ≡ rowAnswer (told (layersOf (take k (now (sizes .entry))) (now (cells .entry))) (now (row .entry))) ⌝ }
+    ensures { λ r. ⌜ r ≡ told (layersOf (take k (now (sizes .entry))) (now (cells .entry))) (now (places .entry)) ⌝ }
 {
-    row_of(&sizes[..k], cells, row)
-}
-
-fn row_of(sizes: &[u32], cells: &[i32], row: &[u32]) -> RowAnswer
-    requires { ⌜ Framed (now sizes) (now cells) ⌝ }
-    ensures { λ r. ⌜ r ≡ rowAnswer (told (layersOf (now (sizes .entry)) (now (cells .entry))) (now (row .entry))) ⌝ }
-{
-    if !all_fit(sizes, row) {
-        return RowAnswer::NoRow;
-    }
-    match share(sizes, cells, row) {
+    match row_ground(sizes, k, cells, places) {
         Sharing::Nothing => RowAnswer::NoRow,
         Sharing::Shared(g) => RowAnswer::Row(g.guard + 1, area(g.common)),
     }
+}
+
+// The ground of the row that the cells name among the first k layers, or nothing where they name none.
+pub fn row_ground(sizes: &[u32], k: usize, cells: &[i32], places: &[u32]) -> Sharing
+    requires { ⌜ (k ≤ length (now sizes)) × Framed (take k (now sizes)) (now cells) ⌝ }
+    ensures { λ r. ⌜ r ≡ groundOf (layersOf (take k (now (sizes .entry))) (now (cells .entry))) (now (places .entry)) ⌝ }
+{
+    ground_in(&sizes[..k], cells, places)
+}
+
+fn ground_in(sizes: &[u32], cells: &[i32], row: &[u32]) -> Sharing
+    requires { ⌜ Framed (now sizes) (now cells) ⌝ }
+    ensures { λ r. ⌜ r ≡ groundOf (layersOf (now (sizes .entry)) (now (cells .entry))) (now (row .entry)) ⌝ }
+{
+    if !all_fit(sizes, row) {
+        return Sharing::Nothing;
+    }
+    share(sizes, cells, row)
 }
 
 // One place for each size, below it.

@@ -11,9 +11,9 @@ use lib.ListN.{length, getD}
 use Rattle.lists.specs.Lists.{All, Pairwise, sum}
 use Rattle.lists.proofs.Lists.{all-map, all-at, all-of-map, pairwise-of-map, pairwise-with}
 use Rattle.geometry.specs.declared.Rect.{Rect}
-use Rattle.geometry.specs.Rectangles.{inRange}
+use Rattle.geometry.specs.Rectangles.{extent, held, inExtent}
 use Rattle.geometry.proofs.Integers.{zarith, total-le}
-use Rattle.plan.specs.Plan.{count, Layer, layersOf}
+use Rattle.plan.specs.Plan.{count, Layer, layersOf, rectAt}
 use Rattle.plan.specs.Frames.{Framed}
 use Rattle.plan.specs.Spots.{Spot, spotOf, Has, rectOf}
 use Rattle.sweep.specs.Sweep.{Earlier, by-left, by-layer, by-place, before, sweepOrder}
@@ -84,11 +84,16 @@ module _ (sizes : List ℕ) (cells : List ℤ) (whole : length cells ≡ 4 * sum
           Memᴰ·cast (sym (spot-number sizes (s .layer) (s .place) h))
           (Memᴰ·map (spotOf sizes) (sweep-has cells (sweep-is cells) k (omega (arith, counted, number-small sizes (s .layer) (s .place) h))))
 
--- every rectangle of a sound plan is in range
-pub rects-ranged : (sizes : List ℕ) (cells : List ℤ) → Framed sizes cells → (s : Spot) → Has (layersOf sizes cells) s → inRange (rectOf (layersOf sizes cells) s) ≡ true
-rects-ranged sizes cells f s h =
-    all-at {P = λ s. inRange (rectOf (layersOf sizes cells) s) ≡ true} (all-of-map (spotOf sizes) (all-map ranged (sweep-is cells .below)))
-    (sweeps sizes cells (f .whole) .complete s h)
+-- every rectangle of the layers is in a range where each in the cells is
+pub rects-held : (b : ℤ) (sizes : List ℕ) (cells : List ℤ) → length cells ≡ 4 * sum sizes → ((k : ℕ) → k < sum sizes → held b (rectAt cells k) ≡ true)
+    → (s : Spot) → Has (layersOf sizes cells) s → held b (rectOf (layersOf sizes cells) s) ≡ true
+rects-held b sizes cells whole f s h =
+    all-at {P = λ s. held b (rectOf (layersOf sizes cells) s) ≡ true} (all-of-map (spotOf sizes) (all-map one (sweep-is cells .below)))
+    (sweeps sizes cells whole .complete s h)
   where
-    ranged : (k : ℕ) → k < count cells → inRange (rectOf (layersOf sizes cells) (spotOf sizes k)) ≡ true
-    ranged k p = let l : k < sum sizes = omega (arith, f .whole) in ap inRange (rect-number sizes cells k l .0) ∙ f .ranged k l
+    one : (k : ℕ) → k < count cells → held b (rectOf (layersOf sizes cells) (spotOf sizes k)) ≡ true
+    one k p = let l : k < sum sizes = omega (arith, whole) in ap (held b) (rect-number sizes cells k l .0) ∙ f k l
+
+-- in the extent, where the sizes frame the cells
+pub rects-ranged : (sizes : List ℕ) (cells : List ℤ) → Framed sizes cells → (s : Spot) → Has (layersOf sizes cells) s → inExtent (rectOf (layersOf sizes cells) s) ≡ true
+rects-ranged sizes cells f = rects-held extent sizes cells (f .whole) (f .ranged)

@@ -1,45 +1,55 @@
--- Theorem: what is promised of the order maker's causes, and of the sweep order of every sound plan. Proved in proofs/Theorems.antt.
+-- Theorem: what is promised of the sweep order, and of the causes of the calls that check or make it. Proved in proofs/Theorems.antt.
 use mathlib.Core.Path.{_≡_}
 use mathlib.Core.List.{List, List·Memᴰ}
 use mathlib.Core.Logic.{_↔_}
-use Prim.Native.Nat.{ℕ, _+_, _<_}
+use Prim.Native.Nat.{ℕ, _+_, _≤_, _<_}
 use lib.IntN.{ℤ}
 use lib.ListN.{length, getD, take}
 use Rattle.lists.specs.Lists.{Pairwise, Distinct, sum}
 use Rattle.plan.specs.declared.Shape.{Shape}
-use Rattle.plan.specs.Plan.{rectAt, count, sizesOf, layers, planCause, Sound}
+use Rattle.plan.specs.Plan.{rectAt, count, layersOf, planCause}
+use Rattle.plan.specs.Frames.{Framed}
 use Rattle.plan.specs.Spots.{spotOf, Has, rectOf}
-use Rattle.sweep.specs.Sweep.{Earlier, sweepOrder, orderCause}
+use Rattle.sweep.specs.Sweep.{Earlier, sweepOrder, orderCause, makeCause}
 
 -- the numbers 0 to n − 1 and no others
 abbrev pub AllBelow : ℕ → List ℕ → Type 0
 AllBelow n l = (i : ℕ) → List·Memᴰ i l ↔ (i < n)
 
 -- by left, then layer, then place
-abbrev pub Swept : Shape → List ℤ → List ℕ → Type 0
-Swept s cells l = Pairwise (λ a b. Earlier (layers s cells) (spotOf (sizesOf s) a) (spotOf (sizesOf s) b)) l
+abbrev pub Swept : List ℕ → List ℤ → List ℕ → Type 0
+Swept ns cells l = Pairwise (λ a b. Earlier (layersOf ns cells) (spotOf ns a) (spotOf ns b)) l
 
-pub record SweepHolds (s : Shape) (cells : List ℤ) : Type 0 where
+-- of layers of these sizes
+pub record SweepHolds (ns : List ℕ) (cells : List ℤ) : Type 0 where
   -- n rectangles lie in the cells
-  pub counted : count cells ≡ sum (s .sizes)
+  pub counted : count cells ≡ sum ns
   -- numbers run by layer and then place: place p of layer j, from 0, comes after all earlier layers
-  pub numbering : (j p : ℕ) → p < getD (sizesOf s) j 0 → spotOf (sizesOf s) (sum (take j (sizesOf s)) + p) ≡ record { layer = j; place = p }
+  pub numbering : (j p : ℕ) → p < getD ns j 0 → spotOf ns (sum (take j ns) + p) ≡ record { layer = j; place = p }
   -- each number is that of a rectangle, as they lie in the cells
-  pub spots : (i : ℕ) → i < sum (s .sizes) → Has (layers s cells) (spotOf (sizesOf s) i) × (rectOf (layers s cells) (spotOf (sizesOf s) i) ≡ rectAt cells i)
+  pub spots : (i : ℕ) → i < sum ns → Has (layersOf ns cells) (spotOf ns i) × (rectOf (layersOf ns cells) (spotOf ns i) ≡ rectAt cells i)
   -- the order is a permutation of these numbers
-  pub permutes : AllBelow (sum (s .sizes)) (sweepOrder cells)
+  pub permutes : AllBelow (sum ns) (sweepOrder cells)
   pub once : Distinct (sweepOrder cells)
   -- strictly ascending
-  pub ascending : Swept s cells (sweepOrder cells)
+  pub ascending : Swept ns cells (sweepOrder cells)
   -- ... and the only such list
-  pub only : (l : List ℕ) → AllBelow (sum (s .sizes)) l → Swept s cells l → l ≡ sweepOrder cells
+  pub only : (l : List ℕ) → AllBelow (sum ns) l → Swept ns cells l → l ≡ sweepOrder cells
+
+-- the causes of a plan and an order: those of the plan, and 5, "order buffer not the sweep order of n", where none of them applies
+pub record OrderCauses (s : Shape) (cells : List ℤ) (order : List ℕ) : Type 0 where
+  pub none : (orderCause s cells order ≡ 0) ↔ ((planCause s cells ≡ 0) × (order ≡ sweepOrder cells))
+  pub five : (orderCause s cells order ≡ 5) ↔ ((planCause s cells ≡ 0) × (order ≡ sweepOrder cells → ⊥))
+  pub earlier : (n : ℕ) → 0 < n → n < 5 → (orderCause s cells order ≡ n) ↔ (planCause s cells ≡ n)
+  pub most : orderCause s cells order ≤ 5
 
 -- the order maker's causes: those of the plan, and 8, "buffer not n cells", where none of them applies
-pub record OrderCauses (s : Shape) (cells : List ℤ) (order : List ℕ) : Type 0 where
-  pub made : (orderCause s cells order ≡ 0) ↔ ((planCause s cells ≡ 0) × (length order ≡ sum (s .sizes)))
-  pub eight : (orderCause s cells order ≡ 8) ↔ ((planCause s cells ≡ 0) × (length order ≡ sum (s .sizes) → ⊥))
-  pub earlier : (n : ℕ) → 0 < n → n < 8 → (orderCause s cells order ≡ n) ↔ (planCause s cells ≡ n)
+pub record MakeCauses (s : Shape) (cells : List ℤ) (order : List ℕ) : Type 0 where
+  pub made : (makeCause s cells order ≡ 0) ↔ ((planCause s cells ≡ 0) × (length order ≡ sum (s .sizes)))
+  pub eight : (makeCause s cells order ≡ 8) ↔ ((planCause s cells ≡ 0) × (length order ≡ sum (s .sizes) → ⊥))
+  pub earlier : (n : ℕ) → 0 < n → n < 8 → (makeCause s cells order ≡ n) ↔ (planCause s cells ≡ n)
 
 pub record Sweeps : Type 0 where
+  pub sweep : (ns : List ℕ) (cells : List ℤ) → Framed ns cells → SweepHolds ns cells
   pub order : (s : Shape) (cells : List ℤ) (order : List ℕ) → OrderCauses s cells order
-  pub sweep : (s : Shape) (cells : List ℤ) → Sound s cells → SweepHolds s cells
+  pub make : (s : Shape) (cells : List ℤ) (order : List ℕ) → MakeCauses s cells order

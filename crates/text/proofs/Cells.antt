@@ -13,12 +13,12 @@ use Rattle.decimal.proofs.Stores.{Left, left-all, left-put, left-none, left-roo
 use Rattle.line.specs.declared.Line.{Line}
 use Rattle.line.specs.declared.Line.the-variants.{Plan, Layer, Rectangle}
 use Rattle.line.specs.Parsing.{next, line}
-use Rattle.text.specs.Parsing.{allLines, isSome}
+use Rattle.text.specs.Parsing.{allLines}
 use Rattle.text.specs.Plans.{cellsIn}
-use Rattle.text.specs.Reader.{linesOr}
 use Rattle.line.specs.Places.{Line-at}
 use Rattle.text.specs.Filling.{restCells, Room}
 use Rattle.text.proofs.Parsing.{first-then, first-none}
+use Rattle.lists.specs.Lists.{isSome, listIn}
 
 pub put-four : (buf : List ℤ) (i : ℕ) (a b c d : ℤ) → Put buf i (a ∷ b ∷ c ∷ d ∷ []) (set (set (set (set buf i a) (i + 1) b) (i + 2) c) (i + 3) d) (i + 4)
 put-four buf i a b c d =
@@ -69,7 +69,7 @@ module _ (s : List ℕ) (start : ℕ) (first cells : List ℤ) (at i : ℕ) (f :
         go none q = let w : allLines (drop at s) ≡ none = e ∙ rw q in clash (f .formed) (ap isSome w)
         go (some ls) q =
             let w : allLines (drop at s) ≡ some (l ∷ ls) = e ∙ rw q in
-            record { formed = ap isSome q; split = ap (λ (o : Option (List Line)). cellsIn (linesOr o)) w ∙ (cells-first l ls ∙ rw q) }
+            record { formed = ap isSome q; split = ap (λ (o : Option (List Line)). cellsIn (listIn o)) w ∙ (cells-first l ls ∙ rw q) }
 
     pub filling-room : length (restCells (drop start s)) ≤ length first → i + length (cellsIn (l ∷ [])) ≤ length cells
     filling-room h =

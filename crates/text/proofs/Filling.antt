@@ -18,7 +18,7 @@ use Rattle.text.specs.declared.Tally.{Tally}
 use Rattle.text.specs.declared.Decision.{Decision}
 use Rattle.text.specs.Spelling.{inner, allInner, headed}
 use Rattle.line.specs.Parsing.{next, line}
-use Rattle.text.specs.Parsing.{only, allLines, linesOf, isSome}
+use Rattle.text.specs.Parsing.{only, allLines, linesOf}
 use Rattle.text.specs.Plans.{cellsIn, shapeIn, agrees}
 use Rattle.text.specs.Reader.{linesCause, readCause, textShape, textCells}
 use Rattle.line.specs.Places.{Line-at}
@@ -28,6 +28,7 @@ use Rattle.text.proofs.Parsing.{first-then, first-none}
 use Rattle.text.proofs.Counting.{few-none, few-lines}
 use Rattle.text.proofs.Sound.{counted-cells}
 use Rattle.text.proofs.Verdict.{Agreed, agreed, verdict}
+use Rattle.lists.specs.Lists.{isSome}
 
 -- 9 or 10, before the cells are compared
 abbrev pub formCause : Option (List Line) → ℕ

@@ -56,7 +56,7 @@ module _ (s : Shape) (plan : List ℤ) (sound : Sound s plan) where
   fit = checked s plan sound
 
   layers : length (sizesOf s) ≡ s .k
-  layers = length-take-le (s .k) (s .sizes) (omega (arith, fit .high, sound .six))
+  layers = length-take-le (s .k) (s .sizes) (omega (arith, fit .high, sound .typed .sizes))
 
   gives : Gives 0 (sizesOf s) plan (layerLines (sizesOf s) plan)
   gives = gives-layers (sizesOf s) plan (omega (arith, fit .whole, front-sum s plan fit))
@@ -64,7 +64,7 @@ module _ (s : Shape) (plan : List ℤ) (sound : Sound s plan) where
   pub plan-shape : shapeIn (planLines s plan) ≡ s
   unfolding planLines shapeIn
   plan-shape =
-      let e : padded 6 (sizesIn (layerLines (sizesOf s) plan)) ≡ s .sizes = ap (padded 6) (gives .sizes) ∙ padded-take 6 (s .k) (s .k) 0 (s .sizes) (sound .six) (omega arith) (fit .high) (fit .fit) in
+      let e : padded 6 (sizesIn (layerLines (sizesOf s) plan)) ≡ s .sizes = ap (padded 6) (gives .sizes) ∙ padded-take 6 (s .k) (s .k) 0 (s .sizes) (sound .typed .sizes) (omega arith) (fit .high) (fit .fit) in
       ap (λ (ns : List ℕ). record { k = s .k; sizes = ns }) e
 
   pub plan-cells : cellsIn (planLines s plan) ≡ plan

@@ -14,7 +14,7 @@ use Rattle.lists.proofs.Tests.{clash, both}
 use Rattle.geometry.specs.declared.Rect.{Rect}
 use Rattle.geometry.specs.Rectangles.{inRange}
 use Rattle.plan.specs.declared.Shape.{Shape}
-use Rattle.plan.specs.Plan.{rectAt, count, sizeFits, sizesFit, allRanged, planCause, Sound}
+use Rattle.plan.specs.Plan.{rectAt, count, sizeFits, sizesFit, allRanged, shapeCause, planCause, Sound}
 use Rattle.plan.proofs.Plan.{Checked, ranged-all}
 use Rattle.line.specs.declared.Line.{Line}
 use Rattle.line.specs.declared.Line.the-variants.{Plan, Layer, Rectangle}
@@ -100,7 +100,7 @@ ranged-is (suc n) (Rectangle r ∷ ls) e =
 -- ---- both together
 pub passed-sound : (ls : List Line) → planCause (shapeIn ls) (cellsIn ls) ≡ 0 → Sound (shapeIn ls) (cellsIn ls)
 unfolding shapeIn
-passed-sound ls e = record { six = padded-long 6 (sizesIn ls); passed = e }
+passed-sound ls e = record { typed = record { sizes = padded-long 6 (sizesIn ls) }; passed = e }
 
 module _ (k : ℕ) (ls : List Line) (layers : length (sizesIn ls) ≡ k) (high : k ≤ 6) (count : counted 0 ls ≡ true) where
   abbrev shape : Shape
@@ -113,7 +113,7 @@ module _ (k : ℕ) (ls : List Line) (layers : length (sizesIn ls) ≡ k) (high :
   in-range = ranged-is (length (cellsIn ls) / 4) ls (omega (arith, counted-cells 0 ls count))
 
   pub sound-lines : 2 ≤ k → small (sizesIn ls) ≡ true → ranged ls ≡ true → planCause shape (cellsIn ls) ≡ 0
-  unfolding planCause
+  unfolding planCause shapeCause
   sound-lines low s r =
       rw (le-leb 2 k low, le-leb k 6 high, padded-fit 6 0 k (sizesIn ls) (omega arith) (omega arith) ∙ s, eq-eqb (length (cellsIn ls)) (4 * sum (padded 6 (sizesIn ls))) whole, in-range ∙ r)
 

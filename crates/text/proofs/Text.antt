@@ -82,7 +82,7 @@ measured s cells h =
       whole = w;
       few = n;
       short = rects-short (count cells) cells w (c .ranged);
-      layers = omega (arith, layers-few (sizesOf s), length-take-le (s .k) (s .sizes) (omega (arith, c .high, h .six)), c .high);
+      layers = omega (arith, layers-few (sizesOf s), length-take-le (s .k) (s .sizes) (omega (arith, c .high, h .typed .sizes)), c .high);
       rects = omega (arith, rects-few (count cells) cells w);
       text = omega (arith, spell-length (Plan (pos (s .k))) (spell (layerLines (sizesOf s) cells)), layers-length (sizesOf s) cells (omega (arith, c .whole, front-sum s cells c)));
     }

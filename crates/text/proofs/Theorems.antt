@@ -12,7 +12,7 @@ use lib.ListN.{length, take}
 use lib.Seq.{take-append-seam, drop-append-seam}
 use borrow.Author.Tests.{eqb-true, le-leb, lt-leb, leb-true, leb-false}
 use Rattle.lists.proofs.Tests.{clash, both, le-tells}
-use Rattle.lists.specs.Lists.{padded}
+use Rattle.lists.specs.Lists.{padded, isSome}
 use Rattle.plan.specs.declared.Shape.{Shape}
 use Rattle.plan.specs.Causes.{unless, _orElse_}
 use Rattle.plan.specs.Plan.{planCause, Sound}
@@ -20,7 +20,7 @@ use Rattle.plan.proofs.Plan.{checked, unless-zero, plan-most, check-failed, che
 use Rattle.line.specs.declared.Line.{Line}
 use Rattle.line.specs.declared.Line.the-variants.{Plan, Layer, Rectangle}
 use Rattle.text.specs.Spelling.{spell}
-use Rattle.text.specs.Parsing.{linesOf, isSome, wellFormed}
+use Rattle.text.specs.Parsing.{linesOf, wellFormed}
 use Rattle.text.specs.Plans.{layerLines, planLines, textOf, sizesIn, cellsIn, shapeIn, counted, wellCounted, agrees}
 use Rattle.text.specs.Reader.{linesCause, readCause, textShape, textCells}
 use Rattle.text.specs.Theorems.{Formed, PlanText, GivesBack, OfPlan, Writes, RoundTrip}

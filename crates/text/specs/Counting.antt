@@ -11,6 +11,7 @@ use lib.ListN.{length, set}
 use Rattle.geometry.specs.declared.Rect.{Rect}
 use Rattle.geometry.specs.Rectangles.{inRange}
 use Rattle.plan.specs.Causes.{unless, _orElse_}
+use Rattle.plan.specs.Limits.{mostSize}
 use Rattle.text.specs.declared.Tally.{Tally}
 use Rattle.line.specs.declared.Line.{Line}
 use Rattle.line.specs.declared.Line.the-variants.{Plan, Layer, Rectangle}
@@ -35,7 +36,7 @@ pick false a b = b
 
 -- a size from 0 to 512
 abbrev pub sizeRight : ℤ → Bool
-sizeRight n = leZ (pos 0) n && leZ n (pos 512)
+sizeRight n = leZ (pos 0) n && leZ n (pos mostSize)
 
 -- a LAYER line of this size may come
 unfoldable pub layerRight : Tally → ℤ → Bool
@@ -83,7 +84,7 @@ tallyFrom t s = addIf t (allLines s)
 pub record Few (t : Tally) : Type 0 where
   pub six : length (t .sizes) ≡ 6
   pub layers : t .layers ≤ 6
-  pub rects : t .rects ≤ 512 * t .layers
+  pub rects : t .rects ≤ mostSize * t .layers
 
 -- the PLAN line's k is from 2 to 6, and as many layers are counted
 abbrev pub layersRight : ℤ → ℕ → Bool

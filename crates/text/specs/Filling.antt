@@ -6,13 +6,14 @@ use Prim.Native.Nat.{ℕ, _≤_}
 use lib.IntN.{ℤ}
 use lib.ListN.{length, drop}
 use Rattle.text.specs.declared.Decision.{Decision}
-use Rattle.text.specs.Parsing.{allLines, isSome}
+use Rattle.text.specs.Parsing.{allLines}
 use Rattle.text.specs.Plans.{cellsIn}
-use Rattle.text.specs.Reader.{linesOr, textCells, noShape, readAnswer}
+use Rattle.text.specs.Reader.{textCells, noShape, readAnswer}
+use Rattle.lists.specs.Lists.{isSome, listIn}
 
 -- the cells that the lines of a text give
 unfoldable pub restCells : List ℕ → List ℤ
-restCells t = cellsIn (linesOr (allLines t))
+restCells t = cellsIn (listIn (allLines t))
 
 -- lines stand from a place to the end, and n cells hold what they give
 pub record Room (s : List ℕ) (i n : ℕ) : Type 0 where

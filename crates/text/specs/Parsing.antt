@@ -1,12 +1,13 @@
 -- The lines of a whole text, read from its start.
 use mathlib.Core.List.{List, [], _∷_}
 use mathlib.Core.Option.{Option, none, some}
-use mathlib.Core.Bool.{Bool, true, false, cond}
+use mathlib.Core.Bool.{Bool, cond}
 use Prim.Native.Nat.{ℕ, zero, suc}
 use lib.ListN.{length}
 use Rattle.line.specs.declared.Line.{Line}
 use Rattle.line.specs.Parsing.{next, line}
 use Rattle.text.specs.Spelling.{headed}
+use Rattle.lists.specs.Lists.{isSome}
 
 -- the value where it passes the test
 abbrev pub only : {A : Type 0} → (A → Bool) → Option A → Option A
@@ -29,11 +30,6 @@ allLines t = linesIn (length t) t
 -- the lines of a well formed text
 unfoldable pub linesOf : List ℕ → Option (List Line)
 linesOf t = only headed (allLines t)
-
--- there is a value
-abbrev pub isSome : {A : Type 0} → Option A → Bool
-isSome none = false
-isSome (some a) = true
 
 -- 01: "The text is well formed when it is a PLAN line followed by any LAYER and RECT lines so spelled." (specs/Theorems.antt, `formed`)
 unfoldable pub wellFormed : List ℕ → Bool

@@ -11,6 +11,7 @@ use Rattle.text.specs.declared.Reading.{Reading}
 use Rattle.line.specs.declared.Line.{Line}
 use Rattle.text.specs.Parsing.{linesOf}
 use Rattle.text.specs.Plans.{shapeIn, cellsIn, agrees}
+use Rattle.lists.specs.Lists.{listIn}
 
 -- 9 where there are no lines, then 10, then 11: "text accepted, cells fewer than 4n"
 abbrev pub linesCause : ℕ → Option (List Line) → ℕ
@@ -21,18 +22,13 @@ linesCause room (some ls) = unless (agrees ls) 10 orElse unless (leb (length (ce
 unfoldable pub readCause : ℕ → List ℕ → ℕ
 readCause room t = linesCause room (linesOf t)
 
--- the lines, and none where the text is not well formed
-abbrev pub linesOr : Option (List Line) → List Line
-linesOr none = []
-linesOr (some ls) = ls
-
 -- the shape that an accepted text gives
 unfoldable pub textShape : List ℕ → Shape
-textShape t = shapeIn (linesOr (linesOf t))
+textShape t = shapeIn (listIn (linesOf t))
 
 -- the cells that it gives
 unfoldable pub textCells : List ℕ → List ℤ
-textCells t = cellsIn (linesOr (linesOf t))
+textCells t = cellsIn (listIn (linesOf t))
 
 -- k and all sizes 0
 abbrev pub noShape : Shape

@@ -7,6 +7,7 @@ use geometry::in_range;
 use line::Found;
 use line::Line;
 use line::read_line;
+use plan::MOST_SIZE;
 use plan::Shape;
 ghost use mathlib.Core.Path.{_≡_};
 ghost use Prim.Native.Nat.{_≤_};
@@ -17,7 +18,7 @@ ghost use Rattle.text.specs.Filling.{refused, Decided};
 ghost use Rattle.text.specs.Counting.{noneYet, unformed, spoilt, layerRight, addLayer, addRect, addLine, tallyFrom, Few, layersRight, tallyCause};
 
 // The largest size of a layer.
-const MOST: i32 = 512;
+const MOST: i32 = MOST_SIZE as i32;
 
 // Nothing counted yet.
 fn none_yet() -> Tally

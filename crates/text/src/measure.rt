@@ -8,6 +8,7 @@ ghost use mathlib.Core.Path.{_≡_};
 ghost use mathlib.Core.Bool.{true};
 ghost use Prim.Native.Nat.{_*_, _≤_};
 ghost use lib.ListN.{length, take};
+ghost use Rattle.plan.specs.Limits.{mostRects};
 ghost use Rattle.plan.specs.Plan.{Sound};
 ghost use Rattle.text.specs.Spelling.{spell, allShort};
 ghost use Rattle.text.specs.Plans.{rectLines, textOf};
@@ -15,7 +16,7 @@ ghost use Rattle.text.specs.Lengths.{layersLength};
 
 // The length of the RECT lines of n rectangles.
 fn rects_size(cells: &[i32], n: usize) -> usize
-    requires { ⌜ (length (now cells) ≡ 4 * n) × (n ≤ 3072) × (allShort (rectLines (now cells)) ≡ true) ⌝ }
+    requires { ⌜ (length (now cells) ≡ 4 * n) × (n ≤ mostRects) × (allShort (rectLines (now cells)) ≡ true) ⌝ }
     ensures { λ v. ⌜ v ≡ length (spell (rectLines (now (cells .entry)))) ⌝ }
 {
     let mut size: usize = 0;

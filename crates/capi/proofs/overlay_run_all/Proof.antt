@@ -1,7 +1,8 @@
 -- `capi::overlay_run_all`: number and cells are those of the values.
 use borrow.Author.Needs.{needs}
 use mathlib.Core.Path.{ap, _∙_}
-use Rattle.paging.specs.Calls.{RunValues}
+use Rattle.paging.specs.declared.Run.{Run}
+use Rattle.paging.specs.Calls.{runValues}
 use Rattle.cells.specs.Cells.{runCells}
 use Rattle.capi.proofs.overlay_run_all.Statement.{statement}
 use Rattle.capi.proofs.overlay_run_all.Tie as tie
@@ -21,7 +22,7 @@ same-length c = search needs
 returns : tie.Need-returns
 returns c =
     let run = c .before .before .before .before .run-all .ensures in
-    (c .run-number .ensures ∙ ap (λ (v : RunValues). v .number) (run .1 .0), (c .before .run-cells .ensures ∙ ap runCells (run .1 .0), run .1 .1))
+    (c .run-number .ensures ∙ ap (λ (r : Run). runValues r .number) (run .0), (c .before .run-cells .ensures ∙ ap (λ (r : Run). runCells (runValues r)) (run .0), run .1))
 
 pub overlay-run-all-spec : {M : Type 1} → statement M
 overlay-run-all-spec =

@@ -1,9 +1,7 @@
 -- `cells::run_cells`: each answer has its values.
 use borrow.Author.Needs.{needs}
-use mathlib.Core.Path.{sym, ap}
-use Rattle.paging.specs.declared.Run.{Run}
-use Rattle.paging.specs.Calls.{runValues}
-use Rattle.cells.specs.Cells.{runCells}
+use mathlib.Core.Path.{sym}
+use Rattle.cells.proofs.Cells.{run-none, run-some}
 use Rattle.cells.proofs.run_cells.Statement.{statement}
 use Rattle.cells.proofs.run_cells.Tie as tie
 
@@ -16,11 +14,14 @@ enum-known-run c = search needs
 cast-t6 : tie.Need-cast-t6
 cast-t6 c = search needs
 
+value-requires : tie.Need-value-requires
+value-requires c κs = search needs
+
 returns : tie.Need-returns
-returns c = sym (ap (λ (a : Run). runCells (runValues a)) (c .enum-told .given .1))
+returns c = run-none (sym (c .enum-told .given .1))
 
 returns-2 : tie.Need-returns-2
-returns-2 c = sym (ap (λ (a : Run). runCells (runValues a)) (c .before .run .given .1))
+returns-2 c = run-some (c .value .result) (c .value .ensures) (sym (c .before .before .run .given .1))
 
 pub run-cells-spec : {M : Type 1} → statement M
-run-cells-spec = tie.close (tie.spec enum-told enum-known-run cast-t6 returns returns-2)
+run-cells-spec = tie.close (tie.spec enum-told enum-known-run cast-t6 value-requires returns returns-2)

@@ -2,7 +2,7 @@
 use borrow.Author.Needs.{needs}
 use mathlib.Core.Path.{ap₂}
 use mathlib.Core.Bool.{_&&_}
-use Rattle.geometry.specs.Rectangles.{inRange}
+use Rattle.geometry.specs.Rectangles.{held}
 use Rattle.geometry.proofs.Machine.{Fitting, read-reach}
 use Rattle.geometry.proofs.in_range.Statement.{statement}
 use Rattle.geometry.proofs.in_range.Tie as tie
@@ -26,7 +26,7 @@ is-nonempty-requires : tie.Need-is-nonempty-requires
 is-nonempty-requires c κs = search needs
 
 returns : tie.Need-returns
-unfolding inRange
+unfolding held
 returns c =
     let c₄ = c .before in
     let c₃ = c₄ .before .before in

@@ -1,12 +1,12 @@
--- `report_plan` takes the plan's cells, and buffers for every order and for 12,288 cells.
+-- `report_plan` takes the plan's cells, and buffers for every order and for the run's table.
 use borrow.Author.Needs.{needs}
 use Rattle.printing.proofs.Puts.{put-same}
 use Rattle.reporting.proofs.Reports.{lent-report, lent-inside, lent-sound, lent-few}
 use Rattle.reporting.proofs.report_plan.Statement.{statement}
 use Rattle.reporting.proofs.report_plan.Tie as tie
 
-sum-of-requires : tie.Need-sum-of-requires
-sum-of-requires c κs = search needs
+count-of-requires : tie.Need-count-of-requires
+count-of-requires c κs = search needs
 
 mul-n : tie.Need-mul-n
 mul-n c = search needs
@@ -33,7 +33,7 @@ pub report-plan-spec : {M : Type 1} → statement M
 report-plan-spec =
     tie.close
     (tie.spec
-    sum-of-requires
+    count-of-requires
     mul-n
     slice-aggregate-report-cells
     slice-aggregate-report-cells-2

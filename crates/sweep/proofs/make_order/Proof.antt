@@ -1,19 +1,18 @@
 -- `sweep::make_order`: a case for each answer.
 use borrow.Author.Needs.{needs}
-use mathlib.Core.Path.{_≡_, sym, _∙_}
+use mathlib.Core.Path.{sym, _∙_}
 use native.Mathlib.Omega.{arith}
-use lib.ListN.{length}
-use Rattle.plan.specs.Plan.{Sound}
+use Rattle.plan.specs.Plan.{Typed, Sound}
 use Rattle.plan.proofs.Plan.{few}
 use Rattle.sweep.proofs.Orders.{order-refused, order-misfit, order-made}
 use Rattle.sweep.proofs.make_order.Statement.{statement}
 use Rattle.sweep.proofs.make_order.Tie as tie
 
-six : (c : tie.Start) → length (c .args .shape .sizes) ≡ 6
-six c = search needs
+typed : (c : tie.Start) → Typed (c .args .shape)
+typed c = record { sizes = search needs }
 
 sound : (c : tie.Else1) → Sound (c .before .before .before .args .shape) (c .before .before .before .args .cells .now)
-sound c = record { six = six (c .before .before .before); passed = sym (c .before .plan-cause .ensures) ∙ c .if1 .left }
+sound c = record { typed = typed (c .before .before .before); passed = sym (c .before .plan-cause .ensures) ∙ c .if1 .left }
 
 plan-cause-requires : tie.Need-plan-cause-requires
 plan-cause-requires c κs = search needs

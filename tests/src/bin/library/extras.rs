@@ -1,6 +1,6 @@
 //! The calls of the C interface that `Overlay` does not have, and cells that are no ticket.
 
-use crate::ffi::{cells_of, fetch_page, is_order, plan_cause, Library};
+use crate::ffi::{cells_of, fetch_page, order_cause, plan_cause, Library};
 use overlay_tests::call::{cells_u32, Plan};
 use overlay_tests::overlay::{Overlay, Ticket};
 use overlay_tests::reference::{order_fault, plan_fault};
@@ -37,13 +37,19 @@ fn causes(seeds: &mut Seeds, plan: &Plan) -> Result<u64, String> {
     Ok(cases)
 }
 
-/// The good order of a sound plan, and others.
+/// Causes 1 to 5: the good order of a sound plan, others, and the good order with damaged plans.
 fn orders(seeds: &mut Seeds, plan: &Plan) -> Result<u64, String> {
     let good = order(plan);
-    let mut cases = expect("is order", plan, is_order(&plan.cells, &good), true)?;
+    let mut cases = expect("order cause", plan, order_cause(&plan.shape, &plan.cells, &good), 0)?;
     for other in other_orders(seeds, &good) {
-        let fits = order_fault(&plan.shape, &plan.cells, &other) == 0;
-        cases += expect("is order", plan, is_order(&plan.cells, &other), fits)?;
+        let fault = order_fault(&plan.shape, &plan.cells, &other);
+        cases += expect("order cause", plan, order_cause(&plan.shape, &plan.cells, &other), fault)?;
+    }
+    for way in 0..8 {
+        let mut unsound = plan.clone();
+        seeds.damage_plan(&mut unsound, way);
+        let (shape, cells) = (&unsound.shape, &unsound.cells);
+        cases += expect("order cause", &unsound, order_cause(shape, cells, &good), order_fault(shape, cells, &good))?;
     }
     Ok(cases)
 }
@@ -70,7 +76,7 @@ fn flags(seeds: &mut Seeds, plan: &Plan) -> Result<u64, String> {
 fn made_orders(plan: &Plan) -> Result<u64, String> {
     let mut made = cells_u32(plan.cells.len() / 4);
     let number = Library.make_order(&plan.shape, &plan.cells, &mut made);
-    expect("orders made", plan, (number, is_order(&plan.cells, &made)), (0, true))
+    expect("orders made", plan, (number, order_cause(&plan.shape, &plan.cells, &made)), (0, 0))
 }
 
 /// All of them on every plan: how many cases, or the first difference.

@@ -13,12 +13,14 @@ extern "C" {
         order: *mut u32,
         order_length: usize,
     ) -> u32;
-    fn overlay_is_order(
+    fn overlay_order_cause(
+        k: u32,
+        sizes: *const u32,
         cells: *const i32,
         cells_length: usize,
         order: *const u32,
         order_length: usize,
-    ) -> bool;
+    ) -> u32;
     fn overlay_row(
         k: u32,
         sizes: *const u32,
@@ -122,10 +124,12 @@ pub fn plan_cause(shape: &Shape, cells: &[i32]) -> u32 {
     unsafe { overlay_plan_cause(shape.k, shape.sizes.as_ptr(), cells.as_ptr(), cells.len()) }
 }
 
-/// Whether a buffer holds the sweep order of the cells.
-pub fn is_order(cells: &[i32], order: &[u32]) -> bool {
+/// The first of the causes 1 to 5 that applies to a plan and an order.
+pub fn order_cause(shape: &Shape, cells: &[i32], order: &[u32]) -> u32 {
     // SAFETY: every pointer comes from a reference, with its length.
-    unsafe { overlay_is_order(cells.as_ptr(), cells.len(), order.as_ptr(), order.len()) }
+    unsafe {
+        overlay_order_cause(shape.k, shape.sizes.as_ptr(), cells.as_ptr(), cells.len(), order.as_ptr(), order.len())
+    }
 }
 
 /// The page call on a ticket's cells: the number and the answer.

@@ -1,5 +1,6 @@
 -- `pager::answers::page_from`: the page loop, told as a page.
 use borrow.Author.Needs.{needs}
+use native.Mathlib.Nat.{le-refl}
 use native.Mathlib.Omega.{arith}
 use Rattle.slots.proofs.Frames.{more}
 use Rattle.pager.proofs.Answering.{room-fits, rows-few, done-few, page-answered}
@@ -7,32 +8,33 @@ use Rattle.pager.proofs.answers.page_from.Statement.{statement}
 use Rattle.pager.proofs.answers.page_from.Tie as tie
 
 capacity-of-requires : tie.Need-capacity-of-requires
-capacity-of-requires c κs = omega (arith, more (c .before .before .pre .0))
+capacity-of-requires c κs = let s : tie.Start = search needs in omega (arith, more (s .pre .0))
 
 go-requires : tie.Need-go-requires
 go-requires c κs =
-    let q = c .before in
-    let s = q .before .before .before in
-    let r = room-fits (s .args .frame) (s .args .table .now) _ (omega (arith, more (s .pre .0))) (q .capacity-of .ensures) in
-    (s .pre, (λ o. r .0, r .1))
+    let s : tie.Start = search needs in
+    let q : tie.After-capacity-of = search needs in
+    let r = room-fits (s .pre .0) (s .args .table .now) _ _ (q .capacity-of .ensures) (le-refl _) in
+    (s .pre, (λ t. r .0, r .1))
 
 stop-at-requires : tie.Need-stop-at-requires
 stop-at-requires c κs = search needs
 
-cast-t14 : tie.Need-cast-t14
-cast-t14 c =
-    let k = c .before .before .before .before .before in
-    let q = k .before .before in
-    let a = q .before .before .before .args in
-    omega (arith, rows-few (a .frame) (a .cells .now) (a .order .now) (a .start) (a .budget) (a .table .now) _ (q .capacity-of .ensures) _ _ (k .go .ensures))
-
 cast-t15 : tie.Need-cast-t15
 cast-t15 c =
-    let k = c .before .before .before .before .before .before in
-    let q = k .before .before in
-    let s = q .before .before .before in
+    let s : tie.Start = search needs in
+    let q : tie.After-capacity-of = search needs in
+    let g : tie.After-go = search needs in
     let a = s .args in
-    omega (arith, s .fits .budget, done-few (a .frame) (a .cells .now) (a .order .now) (a .start) (a .budget) (a .table .now) _ (q .capacity-of .ensures) _ _ (k .go .ensures))
+    omega (arith, rows-few (a .frame) (a .cells .now) (a .order .now) (s .pre .0) (s .pre .1) (a .start) (s .pre .2) (a .budget) (a .table .now) _ (q .capacity-of .ensures) _ _ (g .go .ensures))
+
+cast-t16 : tie.Need-cast-t16
+cast-t16 c =
+    let s : tie.Start = search needs in
+    let q : tie.After-capacity-of = search needs in
+    let g : tie.After-go = search needs in
+    let a = s .args in
+    omega (arith, s .fits .budget, done-few (a .frame) (a .cells .now) (a .order .now) (s .pre .0) (s .pre .1) (a .start) (s .pre .2) (a .budget) (a .table .now) _ (q .capacity-of .ensures) _ _ (g .go .ensures))
 
 cursor-of-requires : tie.Need-cursor-of-requires
 cursor-of-requires c κs = search needs
@@ -42,10 +44,12 @@ same-length c = search needs
 
 returns : tie.Need-returns
 returns c =
-    let k = c .before .before .before .before .before .before .before in
-    let q = k .before .before in
-    let a = q .before .before .before .args in
-    page-answered (a .frame) (a .cells .now) (a .order .now) (a .start) (a .budget) (a .table .now) _ (q .capacity-of .ensures) _ _ (k .go .ensures) _ _ (c .before .before .before .stop-at .ensures) (c .cursor-of .ensures)
+    let g : tie.After-go = search needs in
+    let q = g .before .before in
+    let s = q .before .before .before in
+    let t : tie.After-stop-at = search needs in
+    let a = s .args in
+    page-answered (a .frame) (a .cells .now) (a .order .now) (s .pre .0) (s .pre .1) (a .start) (s .pre .2) (a .budget) (a .table .now) _ (q .capacity-of .ensures) _ _ (g .go .ensures) _ _ (t .stop-at .ensures) (c .cursor-of .ensures)
 
 pub page-from-spec : {M : Type 1} → statement M
 page-from-spec =
@@ -54,8 +58,8 @@ page-from-spec =
     capacity-of-requires
     go-requires
     stop-at-requires
-    cast-t14
     cast-t15
+    cast-t16
     cursor-of-requires
     same-length
     returns)

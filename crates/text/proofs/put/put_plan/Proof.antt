@@ -36,7 +36,7 @@ put-layers-requires c κs =
     let p = a .t2 in
     let cells = now (a .cells) in
     let h = checked p cells (s .pre .0) in (
-      (omega (arith, h .high, s .pre .0 .six), h .high, omega (arith, h .whole, front-sum p cells h)),
+      (omega (arith, h .high, s .pre .0 .typed .sizes), h .high, omega (arith, h .whole, front-sum p cells h)),
       (
         both (shortLine (Plan (pos (p .k)))) (allShort (layerLines (sizesOf p) cells)) (plan-short p cells (s .pre .0)) .1,
         second-room (lines-joined (Plan (pos (p .k)) ∷ []) (layerLines (sizesOf p) cells)) (l .put-plan-line .ensures) (omega (arith, s .pre .1)),

@@ -1,10 +1,10 @@
--- `plan::checks::sum_of`. The invariant: the sum so far and the sizes that are left add up to the whole.
+-- `plan::checks::sum_in`. The invariant: the sum so far and the sizes that are left add up to the whole.
 use native.Mathlib.Omega.{arith}
 use Prim.Native.Nat.{_-_}
 use lib.ListN.{length}
 use Rattle.plan.proofs.Plan.{Summed, summed-more, summed-end}
-use Rattle.plan.proofs.checks.sum_of.Statement.{statement}
-use Rattle.plan.proofs.checks.sum_of.Tie as tie
+use Rattle.plan.proofs.checks.sum_in.Statement.{statement}
+use Rattle.plan.proofs.checks.sum_in.Tie as tie
 
 abbrev Inv-loop : tie.InvT-loop
 Inv-loop sizes n₀ j₀ n j = Summed sizes n j
@@ -39,8 +39,8 @@ loop-again c = summed-more _ _ _ (c .before .before .loop .inv) (c .before .loop
 returns : tie.Need-returns Inv-loop μ-loop
 returns c = (summed-end _ _ _ (c .before .loop .inv) (c .loop-test .left), omega arith)
 
-pub sum-of-spec : {M : Type 1} → statement M
-sum-of-spec =
+pub sum-in-spec : {M : Type 1} → statement M
+sum-in-spec =
     tie.close
     (tie.spec
     Inv-loop
