@@ -1,54 +1,122 @@
-/* The calls of the plan overlay for C. Link with libcapi.a, which `rt staticlib capi` writes to target/staticlib. x86-64 Linux.
+/* The calls of the plan overlay for C and C++. Link with libcapi.a, which `rt staticlib capi` writes to target/staticlib. x86-64 Linux.
  *
- * A call returns the number of the cause that refuses it, or 0. A refusal leaves every buffer as it was, and 0 in all cells of its answer.
- * No pointer is null, also where its length is 0. A buffer that a call writes to overlaps no other that it is handed. */
+ * Every call returns the number of the first cause that refuses it, or 0. A refusal leaves every buffer as it was and 0 in all cells of an answer; the
+ * fresh cursor is then the ended one, and a page leaves its cursor as it was.
+ *
+ * No pointer is null, also where its length is 0. A buffer that a call writes to overlaps no other that it is handed.
+ *
+ * No call allocates or keeps anything: any number of calls may run at once, each with its own buffers to write to; those that are only read may be
+ * shared. A call needs less than OVERLAY_STACK_BYTES of stack (measured). examples/page.c shows the calls at work. */
 #ifndef OVERLAY_H
 #define OVERLAY_H
 
 #include <stddef.h>
 #include <stdint.h>
 
-/* Why a page stopped: the first cell of its answer. */
-enum { OVERLAY_REFUSED = 0, OVERLAY_ENDED = 1, OVERLAY_FULL = 2, OVERLAY_SPENT = 3 };
+/* The version of this interface: another one where a declaration, a number or the order of cells is another. */
+#define OVERLAY_VERSION 1
 
-/* A cursor: whether the walk has ended (0 or 1), the guard's layer and place, how many slots are filled, the five chosen places, the place to try. */
-enum { OVERLAY_CURSOR_CELLS = 10 };
+/* The largest plan: layers, rectangles, cells, and the bytes of its longest text, counted from the format. So much is enough for every plan. */
+enum {
+    OVERLAY_MOST_LAYERS = 6,
+    OVERLAY_MOST_RECTS = 3072,
+    OVERLAY_MOST_CELLS = 12288,
+    OVERLAY_MOST_TEXT = 126019
+};
 
-/* The first of the causes 1 to 4 that applies to a plan. */
+/* The stack that is enough for every call (measured). */
+enum { OVERLAY_STACK_BYTES = 20480 };
+
+/* Causes, in the order in which they are checked. The last is the report program's alone, and there the first. */
+enum overlay_cause {
+    OVERLAY_CAUSE_NONE = 0,
+    OVERLAY_CAUSE_LAYERS = 1,       /* k is not 2 to 6 */
+    OVERLAY_CAUSE_SIZES = 2,        /* a size is above 512, or not 0 past k */
+    OVERLAY_CAUSE_CELLS = 3,        /* the cells are not four for each rectangle */
+    OVERLAY_CAUSE_RECT = 4,         /* a coordinate is out of range, left > right or bottom > top */
+    OVERLAY_CAUSE_ORDER = 5,        /* the order is not the sweep order of the plan */
+    OVERLAY_CAUSE_CURSOR = 6,       /* the cursor is none of this plan */
+    OVERLAY_CAUSE_ROWS = 7,         /* there are more rows than the table takes */
+    OVERLAY_CAUSE_ORDER_LENGTH = 8, /* the order buffer has not one cell for each rectangle */
+    OVERLAY_CAUSE_FORM = 9,         /* the text is not well formed */
+    OVERLAY_CAUSE_COUNT = 10,       /* the text is well formed, but miscounted, or 1, 2 or 4 would apply */
+    OVERLAY_CAUSE_ROOM = 11,        /* the text is good, the cells are too few */
+    OVERLAY_CAUSE_TEXT_LENGTH = 12, /* the text is longer than the buffer */
+    OVERLAY_CAUSE_INPUT = 13        /* the report's input has more than 65,536 bytes */
+};
+
+/* The cells of a cursor. The ended cursor is 1 and nine times 0. */
+enum {
+    OVERLAY_CURSOR_ENDED = 0,  /* whether the walk has ended: 0 or 1 */
+    OVERLAY_CURSOR_LAYER = 1,  /* the guard's layer, from 1 */
+    OVERLAY_CURSOR_PLACE = 2,  /* the guard's place */
+    OVERLAY_CURSOR_FILLED = 3, /* how many slots are filled */
+    OVERLAY_CURSOR_CHOSEN = 4, /* the first of the five chosen places */
+    OVERLAY_CURSOR_NEXT = 9,   /* the place to try */
+    OVERLAY_CURSOR_CELLS = 10
+};
+
+/* The cells of a page's answer. */
+enum {
+    OVERLAY_PAGE_STOP = 0,   /* why it stopped */
+    OVERLAY_PAGE_ROWS = 1,   /* how many rows it put at the start of the table, k cells each */
+    OVERLAY_PAGE_PROBES = 2, /* how many probes it did */
+    OVERLAY_PAGE_AREA = 3,   /* the sum of the rows' areas in square millimetres */
+    OVERLAY_PAGE_CELLS = 4
+};
+
+/* Why a page stopped: all rows are handed out, the table holds no more, the budget is used up; 0 after a refusal. */
+enum overlay_stop { OVERLAY_REFUSED = 0, OVERLAY_ENDED = 1, OVERLAY_FULL = 2, OVERLAY_SPENT = 3 };
+
+/* The cells of a whole run's answer, as of a page's. */
+enum { OVERLAY_RUN_ROWS = 0, OVERLAY_RUN_PROBES = 1, OVERLAY_RUN_AREA = 2, OVERLAY_RUN_CELLS = 3 };
+
+/* The cells of a row's answer: the guard's layer, from 1, and the area in square millimetres. */
+enum { OVERLAY_ROW_LAYER = 0, OVERLAY_ROW_AREA = 1, OVERLAY_ROW_CELLS = 2 };
+
+#ifdef __cplusplus
+extern "C" {
+#endif
+
+/* Judges a plan. Tells 1 to 4. */
 uint32_t overlay_plan_cause(uint32_t k, const uint32_t sizes[6], const int32_t *cells, size_t cells_length);
 
-/* Makes the sweep order of a plan. */
+/* Makes the sweep order of a plan. Tells 1 to 4 and 8. */
 uint32_t overlay_make_order(uint32_t k, const uint32_t sizes[6], const int32_t *cells, size_t cells_length,
                             uint32_t *order, size_t order_length);
 
-/* The first of the causes 1 to 5 that applies to a plan and an order. */
+/* Judges a plan and an order. Tells 1 to 5. */
 uint32_t overlay_order_cause(uint32_t k, const uint32_t sizes[6], const int32_t *cells, size_t cells_length,
                              const uint32_t *order, size_t order_length);
 
-/* What places name in the table of a plan. The answer: the guard's layer, the area; 0 and 0 for no row. */
+/* What places name in the table of a plan: layer 0 and area 0 where they are no row, which is no refusal. Tells 1 to 4. */
 uint32_t overlay_row(uint32_t k, const uint32_t sizes[6], const int32_t *cells, size_t cells_length,
                      const uint32_t *places, size_t places_length, uint64_t answer[2]);
 
-/* The cursor of the first probe. A refusal gives an ended cursor. */
+/* The cursor of the first probe; the ended cursor where there is none, and after a refusal. Tells 1 to 5. */
 uint32_t overlay_fresh_cursor(uint32_t k, const uint32_t sizes[6], const int32_t *cells, size_t cells_length,
                               const uint32_t *order, size_t order_length, uint32_t cursor[10]);
 
-/* A page from a cursor on. The cursor's cells are left with what is due next. The answer: why it stopped, rows, probes, area. */
+/* A page from a cursor on, which is left with what is due next. Cells of the table behind the rows keep what they held. Tells 1 to 6. */
 uint32_t overlay_fetch_page(uint32_t k, const uint32_t sizes[6], const int32_t *cells, size_t cells_length,
                             const uint32_t *order, size_t order_length, uint32_t cursor[10], uint32_t budget,
                             uint32_t *table, size_t table_length, uint64_t answer[4]);
 
-/* All rows of a plan's table. The answer: rows, probes, area. */
+/* All rows of a plan's table. Cells of the table behind the rows keep what they held. Tells 1 to 5 and 7. */
 uint32_t overlay_run_all(uint32_t k, const uint32_t sizes[6], const int32_t *cells, size_t cells_length,
                          const uint32_t *order, size_t order_length, uint32_t *table, size_t table_length,
                          uint64_t answer[3]);
 
-/* Reads a plan text. k and the sizes are left in theirs, 0 after a refusal. */
+/* Reads a plan text. k and the sizes are left in theirs, 0 after a refusal; cells behind the plan's keep what they held. Tells 9 to 11. */
 uint32_t overlay_read_text(const uint8_t *text, size_t text_length, int32_t *cells, size_t cells_length,
                            uint32_t *k, uint32_t sizes[6]);
 
-/* Writes the text of a plan. Its length is left in `size`, 0 after a refusal. */
+/* Writes the text of a plan. Its length is left in `size`, 0 after a refusal; bytes behind it keep what they held. Tells 1 to 4 and 12. */
 uint32_t overlay_write_text(uint32_t k, const uint32_t sizes[6], const int32_t *cells, size_t cells_length,
                             uint8_t *text, size_t text_length, size_t *size);
+
+#ifdef __cplusplus
+}
+#endif
 
 #endif

@@ -1,0 +1,130 @@
+/* Measures what include/overlay.h says of limits: the longest text, and the stack that each call needs. Prints one line; ends with 1 where a number
+ * is above the header's. */
+#define _POSIX_C_SOURCE 200809L
+#include "overlay.h"
+
+#include <pthread.h>
+#include <stdio.h>
+#include <string.h>
+
+/* The largest plan, and what the calls put out for it. */
+static uint32_t k = OVERLAY_MOST_LAYERS, sizes[6] = {512, 512, 512, 512, 512, 512};
+static int32_t cells[OVERLAY_MOST_CELLS];
+static uint32_t order[OVERLAY_MOST_RECTS], table[OVERLAY_MOST_RECTS], cursor[OVERLAY_CURSOR_CELLS];
+static uint8_t text[OVERLAY_MOST_TEXT];
+static size_t text_length;
+
+/* Each call once, on the largest plan; the pages and the run go over rows of all six layers. */
+static uint32_t plan_cause(void) { return overlay_plan_cause(k, sizes, cells, OVERLAY_MOST_CELLS); }
+static uint32_t make_order(void)
+{
+    return overlay_make_order(k, sizes, cells, OVERLAY_MOST_CELLS, order, OVERLAY_MOST_RECTS);
+}
+static uint32_t order_cause(void)
+{
+    return overlay_order_cause(k, sizes, cells, OVERLAY_MOST_CELLS, order, OVERLAY_MOST_RECTS);
+}
+static uint32_t row(void)
+{
+    uint64_t answer[OVERLAY_ROW_CELLS];
+    return overlay_row(k, sizes, cells, OVERLAY_MOST_CELLS, table, k, answer);
+}
+static uint32_t fresh_cursor(void)
+{
+    return overlay_fresh_cursor(k, sizes, cells, OVERLAY_MOST_CELLS, order, OVERLAY_MOST_RECTS, cursor);
+}
+static uint32_t fetch_page(void)
+{
+    uint64_t answer[OVERLAY_PAGE_CELLS];
+    uint32_t cause;
+    do
+        cause = overlay_fetch_page(k, sizes, cells, OVERLAY_MOST_CELLS, order, OVERLAY_MOST_RECTS, cursor, 10000,
+                                   table, OVERLAY_MOST_RECTS, answer);
+    while (cause == 0 && answer[OVERLAY_PAGE_STOP] != OVERLAY_ENDED);
+    return cause;
+}
+static uint32_t run_all(void)
+{
+    uint64_t answer[OVERLAY_RUN_CELLS];
+    return overlay_run_all(k, sizes, cells, OVERLAY_MOST_CELLS, order, OVERLAY_MOST_RECTS, table,
+                           OVERLAY_MOST_RECTS, answer);
+}
+static uint32_t write_text(void)
+{
+    return overlay_write_text(k, sizes, cells, OVERLAY_MOST_CELLS, text, OVERLAY_MOST_TEXT, &text_length);
+}
+static uint32_t read_text(void)
+{
+    return overlay_read_text(text, text_length, cells, OVERLAY_MOST_CELLS, &k, sizes);
+}
+
+/* Each call with its name; those that fill a buffer come before those that take it. */
+static const struct {
+    const char *name;
+    uint32_t (*call)(void);
+} calls[] = {{"plan_cause", plan_cause}, {"make_order", make_order},     {"order_cause", order_cause},
+             {"row", row},               {"fresh_cursor", fresh_cursor}, {"fetch_page", fetch_page},
+             {"run_all", run_all},       {"write_text", write_text},     {"read_text", read_text}};
+enum { CALLS = sizeof calls / sizeof *calls };
+
+/* A stack of our own, and how much of it each call has used: all below the caller's frame is filled with a byte, and the lowest that is another one
+ * after the call was the deepest. */
+enum { STACK = 1 << 18, OWN = 256, FILL = 0xA5 };
+static _Alignas(4096) unsigned char stack[STACK];
+static size_t used[CALLS];
+static int failed;
+
+static void *measure(void *unused)
+{
+    unsigned char *frame = (unsigned char *)__builtin_frame_address(0) - OWN;
+    for (int i = 0; i < CALLS; i++) {
+        for (volatile unsigned char *at = stack; at < frame; at++)
+            *at = FILL;
+        if (calls[i].call() != 0)
+            failed = 1;
+        unsigned char *lowest = stack;
+        while (lowest < frame && *lowest == FILL)
+            lowest++;
+        size_t depth = (size_t)(frame + OWN - lowest);
+        if (depth > used[i])
+            used[i] = depth;
+    }
+    return unused;
+}
+
+/* Measures all calls on a thread of its own. */
+static void measure_all(void)
+{
+    pthread_attr_t attributes;
+    pthread_t thread;
+    if (pthread_attr_init(&attributes) || pthread_attr_setstack(&attributes, stack, STACK) ||
+        pthread_create(&thread, &attributes, measure, NULL) || pthread_join(thread, NULL))
+        failed = 1;
+}
+
+int main(void)
+{
+    /* Points on a diagonal: one row for each place. Their lefts fall, so that every merge of the order moves them. */
+    for (int i = 0; i < OVERLAY_MOST_CELLS; i++)
+        cells[i] = 1000000 - 1000 * (i / 4 % 512);
+    measure_all();
+
+    /* The longest text. PLAN takes 7 bytes, each of 6 LAYER lines 10, each of 3,072 RECT lines 41: a word of four bytes, four times a tab and
+     * -1000000, and the line end. 7 + 60 + 125,952 = 126,019. */
+    for (int i = 0; i < OVERLAY_MOST_CELLS; i++)
+        cells[i] = -1000000;
+    if (write_text() != 0 || text_length != OVERLAY_MOST_TEXT || read_text() != 0)
+        failed = 1;
+    size_t none;
+    if (overlay_write_text(k, sizes, cells, OVERLAY_MOST_CELLS, text, OVERLAY_MOST_TEXT - 1, &none) != OVERLAY_CAUSE_TEXT_LENGTH)
+        failed = 1;
+
+    printf("longest text %zu bytes; stack in bytes:", text_length);
+    for (int i = 0; i < CALLS; i++) {
+        printf(" %s %zu", calls[i].name, used[i]);
+        if (used[i] >= OVERLAY_STACK_BYTES)
+            failed = 1;
+    }
+    printf("\n");
+    return failed;
+}

@@ -1,0 +1,188 @@
+//! The three declarations of the C interface say the same: the header, the library's exported functions, and the wrapper's extern block.
+
+const HEADER: &str = include_str!("../../include/overlay.h");
+const LIBRARY: &str = include_str!("../../crates/capi/src/lib.rt");
+const WRAPPER: &str = include_str!("../src/bin/library/ffi.rs");
+
+/// A function as a list: its name, each parameter as `name: type`, and the type that it returns. Types are spelled as in Rust; an
+/// array behind a pointer has its length, as in `*const [u32; 6]`.
+type Function = Vec<String>;
+
+/// The text between the first two marks.
+fn between<'a>(text: &'a str, open: &str, close: &str) -> &'a str {
+    let start = text.find(open).unwrap_or_else(|| panic!("no {open:?} in {text:?}")) + open.len();
+    let end = text[start..].find(close).unwrap_or_else(|| panic!("no {close:?} in {text:?}"));
+    &text[start..start + end]
+}
+
+/// Parts at commas, without spaces around them and without empty ones; commas do not occur in types.
+fn parts(list: &str) -> impl Iterator<Item = &str> {
+    list.split(',').map(str::trim).filter(|part| !part.is_empty())
+}
+
+/// A scalar of C in Rust's words.
+fn scalar(word: &str) -> &'static str {
+    match word {
+        "int32_t" => "i32",
+        "uint8_t" => "u8",
+        "uint32_t" => "u32",
+        "uint64_t" => "u64",
+        "size_t" => "usize",
+        _ => panic!("{word} is no scalar of the interface"),
+    }
+}
+
+/// A parameter of C: `const int32_t *cells`, `const uint32_t sizes[6]`, `uint32_t k`.
+fn c_parameter(text: &str) -> String {
+    let (constant, text) = text.strip_prefix("const ").map_or((false, text), |rest| (true, rest));
+    let (word, name) = text.split_once(' ').expect("a type and a name");
+    let pointer = if constant { "*const" } else { "*mut" };
+    let word = scalar(word);
+    if let Some(name) = name.strip_prefix('*') {
+        return format!("{name}: {pointer} {word}");
+    }
+    if let Some((name, length)) = name.strip_suffix(']').and_then(|name| name.split_once('[')) {
+        return format!("{name}: {pointer} [{word}; {length}]");
+    }
+    assert!(!constant, "{name}: a value that is constant");
+    format!("{name}: {word}")
+}
+
+/// The prototypes of a header: what is left without comments, directives, enums and the guard for C++.
+fn in_header(header: &str) -> Vec<Function> {
+    let mut code = String::new();
+    for (i, part) in header.split("/*").enumerate() {
+        code.push_str(if i == 0 { part } else { part.split_once("*/").expect("a comment that ends").1 });
+    }
+    let lines =
+        code.lines().filter(|line| !line.starts_with('#') && !matches!(*line, "extern \"C\" {" | "}"));
+    let code = lines.collect::<Vec<_>>().join(" ");
+    let statements = code.split(';').map(str::trim);
+    let prototypes = statements.filter(|text| !text.is_empty() && !text.starts_with("enum "));
+    let read = |text: &str| {
+        let (result, rest) = text.split_once(' ').expect("a type and a function");
+        let (name, list) = rest.strip_suffix(')').and_then(|rest| rest.split_once('(')).expect("parameters");
+        let mut function = vec![name.to_string()];
+        function.extend(parts(list).map(c_parameter));
+        function.push(scalar(result).to_string());
+        function
+    };
+    sorted(prototypes.map(read).collect())
+}
+
+/// The functions of a Rust or Rattle text, each after `mark`. A result ends at `end`.
+fn in_code(text: &str, mark: &str, end: &[char], parameter: fn(&str) -> Vec<String>) -> Vec<Function> {
+    let read = |text: &str| {
+        let (name, rest) = text.split_once('(').expect("parameters");
+        let (list, rest) = rest.split_once(") -> ").expect("a result");
+        let mut function = vec![name.to_string()];
+        function.extend(parts(list).flat_map(parameter));
+        function.push(rest.split(end).next().expect("a result").to_string());
+        function
+    };
+    sorted(text.split(mark).skip(1).map(read).collect())
+}
+
+/// A parameter of Rattle as the C interface passes it: a slice as a pointer and a length, a reference as a pointer.
+fn rattle_parameter(text: &str) -> Vec<String> {
+    let (name, kind) = text.split_once(": ").expect("a name and a type");
+    let Some(kind) = kind.strip_prefix('&') else { return vec![text.to_string()] };
+    let (pointer, kind) = kind.strip_prefix("mut ").map_or(("*const", kind), |rest| ("*mut", rest));
+    match kind.strip_prefix('[').and_then(|kind| kind.strip_suffix(']')) {
+        Some(word) if !word.contains(';') => {
+            vec![format!("{name}: {pointer} {word}"), format!("{name}_length: usize")]
+        }
+        _ => vec![format!("{name}: {pointer} {kind}")],
+    }
+}
+
+/// The exported functions of the library.
+fn in_library(text: &str) -> Vec<Function> {
+    in_code(text, "pub extern \"C\" fn ", &['\n'], rattle_parameter)
+}
+
+/// The declarations of the wrapper.
+fn in_wrapper(text: &str) -> Vec<Function> {
+    let block = between(text, "extern \"C\" {", "\n}");
+    in_code(block, "fn ", &[';'], |parameter| vec![parameter.to_string()])
+}
+
+/// By name.
+fn sorted(mut functions: Vec<Function>) -> Vec<Function> {
+    functions.sort();
+    functions
+}
+
+/// The functions with a plain pointer in place of a pointer to an array: the wrapper's form.
+fn plain(functions: &[Function]) -> Vec<Function> {
+    let word = |text: &String| match text.split_once('[') {
+        Some((start, _)) => format!("{start}{}", between(text, "[", ";")),
+        None => text.clone(),
+    };
+    functions.iter().map(|function| function.iter().map(word).collect()).collect()
+}
+
+/// Whether the three say the same.
+fn agree(header: &str, library: &str, wrapper: &str) -> bool {
+    let functions = in_header(header);
+    functions == in_library(library) && plain(&functions) == in_wrapper(wrapper)
+}
+
+#[test]
+fn header_library_and_wrapper_agree() {
+    let functions = in_header(HEADER);
+    assert_eq!(functions.len(), 9);
+    assert_eq!(functions, in_library(LIBRARY));
+    assert_eq!(plain(&functions), in_wrapper(WRAPPER));
+}
+
+/// The text with the first occurrence of a part replaced.
+fn changed(text: &str, old: &str, new: &str) -> String {
+    assert!(text.contains(old), "no {old:?}");
+    text.replacen(old, new, 1)
+}
+
+#[test]
+fn every_change_is_noticed() {
+    let header = [
+        ("uint32_t overlay_row(", "uint32_t overlay_rows("),
+        ("uint32_t overlay_row(", "uint64_t overlay_row("),
+        ("const int32_t *cells", "int32_t *cells"),
+        ("const int32_t *cells", "const uint32_t *cells"),
+        ("const uint32_t sizes[6]", "const uint32_t sizes[5]"),
+        ("const uint32_t sizes[6]", "uint32_t sizes[6]"),
+        ("uint64_t answer[4]", "uint32_t answer[4]"),
+        (" uint32_t budget,", ""),
+        ("uint32_t budget,", "uint64_t budget,"),
+        ("size_t *size", "uint32_t *size"),
+        ("uint32_t *k, uint32_t sizes[6]", "uint32_t sizes[6], uint32_t *k"),
+    ];
+    let library = [
+        ("fn overlay_row(", "fn overlay_rows("),
+        ("cells: &[i32]", "cells: &mut [i32]"),
+        ("cells: &[i32]", "cells: &[i64]"),
+        ("sizes: &[u32; 6]", "sizes: &[u32]"),
+        ("answer: &mut [u64; 4]", "answer: &mut [u64; 3]"),
+        ("    budget: u32,\n", ""),
+        ("k: &mut u32", "k: u32"),
+        ("#[no_mangle]\npub extern \"C\" fn overlay_row(", "fn overlay_row("),
+    ];
+    let wrapper = [
+        ("fn overlay_row(", "fn overlay_rows("),
+        ("cells: *const i32", "cells: *mut i32"),
+        ("cells: *const i32", "cells: *const u32"),
+        ("        budget: u32,\n", ""),
+        ("budget: u32", "budget: u64"),
+        ("size: *mut usize", "size: *mut u32"),
+        (") -> u32;", ") -> u64;"),
+    ];
+    for (old, new) in header {
+        assert!(!agree(&changed(HEADER, old, new), LIBRARY, WRAPPER), "header: {old:?} as {new:?}");
+    }
+    for (old, new) in library {
+        assert!(!agree(HEADER, &changed(LIBRARY, old, new), WRAPPER), "library: {old:?} as {new:?}");
+    }
+    for (old, new) in wrapper {
+        assert!(!agree(HEADER, LIBRARY, &changed(WRAPPER, old, new)), "wrapper: {old:?} as {new:?}");
+    }
+}
