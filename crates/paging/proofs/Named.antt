@@ -4,7 +4,7 @@ use mathlib.Core.List.{List, [], _∷_, List·Memᴰ, List·Memᴰ·head, List·
 use mathlib.Core.Option.{Option, none, some}
 use mathlib.Core.Bool.{Bool, true, false, cond}
 use mathlib.Core.Logic.{inl, inr, ⊎-elim}
-use Prim.Native.Nat.{ℕ, suc, _-_, _≤_, _<_}
+use Prim.Native.Nat.{ℕ, _+_, suc, _-_, _≤_, _<_}
 use native.Mathlib.Omega.{arith}
 use lib.IntN.{ℤ}
 use lib.ListN.{length, take, getD, length-take, length-append}
@@ -47,7 +47,7 @@ find-some ns {t} (u ∷ walk) m = go (sameCursor (cursorOf ns u) (cursorOf ns t)
 
 module _ (ns : List ℕ) (cells : List ℤ) (frame : Framed ns cells) where
   -- the cursor of a probe of the walk names it
-  cursor-names : (t : Probe Rect) → List·Memᴰ t (walkOf ns cells) → NamesProbe ns cells (cursorOf ns t)
+  pub cursor-names : (t : Probe Rect) → List·Memᴰ t (walkOf ns cells) → NamesProbe ns cells (cursorOf ns t)
   cursor-names t m = record {
     going = refl;
     layer = omega arith;
@@ -66,9 +66,9 @@ module _ (ns : List ℕ) (cells : List ℤ) (frame : Framed ns cells) where
       h : (t .guard < count cells) × (let g = guardAt (layersOf ns cells) (t .guard) (spotOf ns (t .guard)) in Named (g .slots) (g .start) (t .path))
       h = walk-is-table ns cells frame .probes (t .guard) (t .path) .0 (t, m, refl, refl)
 
-  -- a cursor that names a probe leaves one of its five cells unfilled
-  names-filled : (c : Cursor) → NamesProbe ns cells c → c .filled ≤ 4
-  names-filled c p =
+  -- a cursor that names a probe leaves a slot for the place to try
+  pub names-slots : (c : Cursor) → NamesProbe ns cells c → c .filled + 2 ≤ length ns
+  names-slots c p =
       let ls = layersOf ns cells in
       let i = c .layer - 1 in
       let x = rectOf ls (record { layer = i; place = c .place }) .left in
@@ -78,11 +78,14 @@ module _ (ns : List ℕ) (cells : List ℤ) (frame : Framed ns cells) where
         named-short (p .path) .1,
         slots-long x i (without i ls),
         layers-long ns cells,
-        frame .few,
         length-append (take (c .filled) (c .chosen)) (c .next ∷ []),
         length-take (c .filled) (c .chosen),
         p .five,
       )
+
+  -- and so one of its five cells unfilled
+  pub names-filled : (c : Cursor) → NamesProbe ns cells c → c .filled ≤ 4
+  names-filled c p = omega (arith, names-slots c p, frame .few)
 
   -- it is the cursor of a probe with this spot and path
   names-same : (c : Cursor) → NamesProbe ns cells c → (t : Probe Rect) → spotOf ns (t .guard) ≡ record { layer = c .layer - 1; place = c .place } → t .path ≡ pathIn c → cursorOf ns t ≡ c

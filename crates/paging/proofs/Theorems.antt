@@ -1,6 +1,6 @@
 -- Demand 3 holds of every list of page calls on any plan, and of the whole run on every sound one.
 use mathlib.Core.Path.{_≡_, refl, sym, ap, _∙_, subst, subst₂}
-use mathlib.Core.List.{List, map}
+use mathlib.Core.List.{List, map, List·Memᴰ}
 use mathlib.Core.Option.{Option, none, some}
 use mathlib.Core.Bool.{true}
 use Prim.Native.Nat.{ℕ, zero, suc}
@@ -9,12 +9,13 @@ use lib.IntN.{ℤ}
 use lib.ListN.{length, drop}
 use lib.Seq.{drop-append-seam}
 use Rattle.lists.specs.Lists.{All, none-left, _and_, isSome}
-use Rattle.lists.proofs.Lists.{all-map}
+use Rattle.lists.proofs.Lists.{all-at, all-of-mem}
 use Rattle.lists.proofs.Tests.{clash}
 use Rattle.geometry.specs.declared.Rect.{Rect}
 use Rattle.totals.specs.Totals.{totalOf}
 use Rattle.plan.specs.declared.Shape.{Shape}
 use Rattle.plan.specs.Plan.{sizesOf, planCause, Typed, Sound}
+use Rattle.plan.specs.Frames.{Framed}
 use Rattle.plan.proofs.Plan.{unless-zero, or-else-zero, framed}
 use Rattle.sweep.specs.Sweep.{sweepOrder, orderCause}
 use Rattle.sweep.proofs.Theorems.{sweep-holding, order-passes}
@@ -28,6 +29,7 @@ use Rattle.paging.specs.Calls.{freshCall, pageCause, pageCall, pageTable
 use Rattle.paging.specs.Theorems.{Call, served, Chain, end, refused, accepted, Says, PageHolds, PagingHolds, Demand3}
 use Rattle.paging.proofs.Overlays.{Lawful, lawful}
 use Rattle.paging.proofs.Resume.{resume-is, walk-deep, resume-due}
+use Rattle.paging.proofs.Named.{cursor-names, names-filled, names-slots}
 use Rattle.paging.proofs.Causes.{sound-of, call-causes, refuses}
 use Rattle.paging.proofs.Cursors.{cursor-path}
 use Rattle.paging.proofs.Calls.{Serves}
@@ -127,8 +129,29 @@ page-left x typed e = go (resume o (x .cursor)) refl
 
 -- the cursor of each probe says its guard and its path
 cursor-says : (s : Shape) (cells : List ℤ) → Sound s cells → All (λ t. Says (sizesOf s) (cursorOf (sizesOf s) t) t) (overlay s cells .walk)
-cursor-says s cells h =
-    all-map (λ t d. record { layer = refl; place = refl; path = cursor-path (sizesOf s) t d }) (walk-deep (overlay s cells) (laws s cells h))
+cursor-says s cells h = all-of-mem (overlay s cells .walk) one
+  where
+    frame : Framed (sizesOf s) cells
+    frame = framed s cells h .1
+
+    one : (t : Probe Rect) → List·Memᴰ t (overlay s cells .walk) → Says (sizesOf s) (cursorOf (sizesOf s) t) t
+    one t m =
+        let p = cursor-names (sizesOf s) cells frame t m in
+        record {
+          going = refl;
+          layer = refl;
+          place = refl;
+          few = names-filled (sizesOf s) cells frame (cursorOf (sizesOf s) t) p;
+          slots = names-slots (sizesOf s) cells frame (cursorOf (sizesOf s) t) p;
+          five = p .five;
+          zeros = p .zeros;
+          path = cursor-path (sizesOf s) t (all-at (walk-deep (overlay s cells) (laws s cells h)) m);
+        }
+
+-- the fresh call that is accepted
+fresh-accepted : (s : Shape) (cells : List ℤ) (order : List ℕ) → orderCause s cells order ≡ 0 → let o = overlay s cells in freshCall s cells order ≡ record { number = 0; cursor = dueCursor (o .sizes) (o .walk) }
+unfolding freshCall
+fresh-accepted s cells order e = rw e
 
 -- ---- demand 3
 pub demand3 : Demand3
@@ -137,6 +160,8 @@ demand3 = record {
   walk = λ s cells h. walk-is-table (sizesOf s) cells (framed s cells h .1);
   causes = call-causes;
   refused = refuses;
+  cap = λ s cells table. refl;
+  fresh = fresh-accepted;
   says = cursor-says;
   taken = cursor-taken;
   page = page-left;

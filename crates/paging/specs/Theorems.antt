@@ -2,10 +2,10 @@
 -- Sentences in quotes are the demand's; those of the scope paper begin with 01.
 use mathlib.Core.Path.{_≡_}
 use mathlib.Core.List.{List, [], _∷_, _++_, map}
-use mathlib.Core.Bool.{false, _&&_}
+use mathlib.Core.Bool.{true, false, _&&_}
 use mathlib.Core.Logic.{_↔_, _⊎_}
 use mathlib.Core.Option.{some}
-use Prim.Native.Nat.{ℕ, zero, suc, _-_, _*_, _≤_, _<_}
+use Prim.Native.Nat.{ℕ, zero, suc, _+_, _-_, _*_, _/_, _≤_, _<_, min}
 use lib.IntN.{ℤ}
 use lib.Dec.{eqb, ltb}
 use lib.ListN.{length, getD, take, drop}
@@ -23,11 +23,11 @@ use Rattle.walk.specs.Walk.{guardAt}
 use Rattle.walk.specs.Theorems.{WalkIsTable}
 use Rattle.paging.specs.declared.Cursor.{Cursor}
 use Rattle.paging.specs.declared.Page.{Page}
-use Rattle.paging.specs.declared.Stop.the-variants.{Ended, Full, Spent}
+use Rattle.paging.specs.declared.Stop.the-variants.{Ended, Full, Spent, Refused}
 use Rattle.paging.specs.Overlays.{Overlay, overlay}
 use Rattle.paging.specs.Cursors.{cursorOf, endedCursor, dueCursor, resume}
 use Rattle.paging.specs.Pages.{room, placed, areaSum}
-use Rattle.paging.specs.Calls.{freshCall, stopNumber, refusedPage, pageCause, pageCall, pageTable, runCause, runCall, runTable, runValues}
+use Rattle.paging.specs.Calls.{freshCall, stopNumber, pageCause, pageCall, pageTable, runCause, runCall, runTable, runValues}
 
 -- ---- page calls
 -- whatever a call brings
@@ -97,8 +97,13 @@ pub record Last (xs : List Served) (x : Served) : Type 0 where
 -- 01: "the guard's layer and place, how many slots are filled (0 to 4), the chosen places in five cells (unfilled ones 0), first slot first, and the place
 -- to try": what the cursor of a probe says of it
 pub record Says {S : Type 0} (ns : List ℕ) (c : Cursor) (t : Probe S) : Type 0 where
+  pub going : c .ended ≡ false
   pub layer : c .layer ≡ suc (spotOf ns (t .guard) .layer)
   pub place : c .place ≡ spotOf ns (t .guard) .place
+  pub few : c .filled ≤ 4
+  pub slots : c .filled + 2 ≤ length ns
+  pub five : length (c .chosen) ≡ 5
+  pub zeros : (i : ℕ) → c .filled ≤ i → getD (c .chosen) i 0 ≡ 0
   pub path : take (c .filled) (c .chosen) ++ c .next ∷ [] ≡ t .path
 
 -- the cursor names a probe of the walk, field by field
@@ -137,8 +142,10 @@ pub record Refuses (x : Call) : Type 0 where
   pub page-number : stopNumber (served x .answer .stop) ≡ served x .cause
   pub run-number : runValues (runCall (x .shape) (x .cells) (x .order) (x .table)) .number ≡ runCause (x .shape) (x .cells) (x .order) (x .table)
   -- all else
-  pub fresh : (n : ℕ) → orderCause (x .shape) (x .cells) (x .order) ≡ suc n → freshCall (x .shape) (x .cells) (x .order) .cursor ≡ endedCursor
-  pub page : (n : ℕ) → served x .cause ≡ suc n → (served x .answer ≡ refusedPage (x .cursor) (suc n)) × (served x .after ≡ x .table)
+  pub fresh : (n : ℕ) → orderCause (x .shape) (x .cells) (x .order) ≡ suc n
+      → freshCall (x .shape) (x .cells) (x .order) ≡ record { number = suc n; cursor = record { ended = true; layer = 0; place = 0; filled = 0; chosen = 0 ∷ 0 ∷ 0 ∷ 0 ∷ 0 ∷ []; next = 0 } }
+  pub page : (n : ℕ) → served x .cause ≡ suc n
+      → (served x .answer ≡ record { stop = Refused (suc n); rows = 0; probes = 0; area = totalOf 0; cursor = x .cursor }) × (served x .after ≡ x .table)
   pub run : (n : ℕ) → runCause (x .shape) (x .cells) (x .order) (x .table) ≡ suc n
       → (runValues (runCall (x .shape) (x .cells) (x .order) (x .table)) ≡ record { number = suc n; rows = 0; probes = 0; area = totalOf 0 }) × (runTable (x .shape) (x .cells) (x .order) (x .table) ≡ x .table)
 
@@ -198,6 +205,10 @@ pub record Demand3 : Type 0 where
   pub causes : (s : Shape) (cells : List ℤ) (order : List ℕ) (c : Cursor) (table : List ℕ) → Typed s → CallCauses s cells order c table
   -- what a refused call returns and leaves
   pub refused : (x : Call) → Refuses x
+  -- 01: "never more than 1,000,000"
+  pub cap : (s : Shape) (cells : List ℤ) (table : List ℕ) → room (overlay s cells) table ≡ min (length table / length (sizesOf s)) 1000000
+  -- 01: "returns the fresh ticket: the first trial, or Ended where the walk is empty": the cursor of the whole walk
+  pub fresh : (s : Shape) (cells : List ℤ) (order : List ℕ) → orderCause s cells order ≡ 0 → let o = overlay s cells in freshCall s cells order ≡ record { number = 0; cursor = dueCursor (o .sizes) (o .walk) }
   -- the cursor of each probe says which it is
   pub says : (s : Shape) (cells : List ℤ) → Sound s cells → All (λ t. Says (sizesOf s) (cursorOf (sizesOf s) t) t) (overlay s cells .walk)
   -- the cursor of what is left after any number of probes is accepted, and names just that
