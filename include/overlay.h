@@ -16,7 +16,7 @@
 /* The version of this interface: another one where a declaration, a number or the order of cells is another. */
 #define OVERLAY_VERSION 1
 
-/* The largest plan: layers, rectangles, cells, and the bytes of its longest text, counted from the format. So much is enough for every plan. */
+/* The largest plan: layers, rectangles, cells, and the bytes of its longest text, which is proved. So much is enough for every plan. */
 enum {
     OVERLAY_MOST_LAYERS = 6,
     OVERLAY_MOST_RECTS = 3072,

@@ -42,10 +42,21 @@ pub enum Slip {
     FullAtEnd,
     FullLate,
     NextAtSize,
+    RowRefusalArea,
+    PageRefusalTrials,
+    RunRefusalRows,
+    WriteRefusalLength,
+    ReadRefusalShape,
+    EightDigits,
+    SignLost,
+    PageCapIgnored,
+    EightWrites,
+    ReadPast,
+    FreshRefusalGoing,
 }
 
 /// Every slip with its description.
-pub const SLIPS: [(Slip, &str); 32] = [
+pub const SLIPS: [(Slip, &str); 43] = [
     (Slip::TiesTwice, "guards chosen with <= on both sides, so ties list a row twice"),
     (Slip::OpenEdges, "open edges"),
     (Slip::SpentAtEnd, "Spent reported where the last trial ended the walk"),
@@ -78,6 +89,17 @@ pub const SLIPS: [(Slip, &str); 32] = [
     (Slip::FullAtEnd, "Full reported where the row that fills the table ended the walk"),
     (Slip::FullLate, "Full told only when a row finds no room"),
     (Slip::NextAtSize, "a ticket accepted whose place to try is one past the last"),
+    (Slip::RowRefusalArea, "a refused row call telling an area"),
+    (Slip::PageRefusalTrials, "a refused page telling a trial"),
+    (Slip::RunRefusalRows, "a refused whole run telling the rows it counted"),
+    (Slip::WriteRefusalLength, "a refused writing telling a length"),
+    (Slip::ReadRefusalShape, "a refused reading telling a k"),
+    (Slip::EightDigits, "a number of eight digits taken for one"),
+    (Slip::SignLost, "a minus passed over"),
+    (Slip::PageCapIgnored, "a page without the cap of 1,000,000 rows"),
+    (Slip::EightWrites, "an order buffer written before refusal 8"),
+    (Slip::ReadPast, "the reader writing past the first 4n cells"),
+    (Slip::FreshRefusalGoing, "a refused fresh ticket that is not Ended"),
 ];
 
 /// The reference with one slip.
@@ -241,6 +263,31 @@ fn without_minus_zero(text: &[u8]) -> Vec<u8> {
     out
 }
 
+/// A text in which every number of eight digits has another of seven, which no plan holds.
+fn eight_digits_cut(text: &[u8]) -> Vec<u8> {
+    let mut out = Vec::new();
+    for part in text.split_inclusive(|&byte| byte == 9 || byte == 10) {
+        let digits = part.strip_prefix(b"-").unwrap_or(part);
+        let eight = digits.len() == 9 && digits[..8].iter().all(u8::is_ascii_digit) && digits[0] != b'0';
+        let (number, end) = part.split_at(part.len() - 1);
+        out.extend(if eight { b"9999999" } else { number });
+        out.extend(end);
+    }
+    out
+}
+
+/// A page that goes on past 1,000,000 rows where its table has more cells.
+fn cap_ignored(plan: (&Shape, &[i32]), order: &[u32], page: Page, budget: u32, table: &mut [u32]) -> Page {
+    let filled = page.rows as usize * plan.0.k as usize;
+    let more = page_by(passes, plan, order, &page.ticket, budget - page.trials, &mut table[filled..]);
+    Page {
+        rows: page.rows + more.rows,
+        trials: page.trials + more.trials,
+        area: page.area + more.area,
+        ..more
+    }
+}
+
 impl Wrong {
     /// The trial that a slip takes a ticket for which the rules refuse with 6.
     fn believed(&self, shape: &Shape, cells: &[i32], ticket: &Ticket) -> Option<Ticket> {
@@ -263,6 +310,7 @@ impl Wrong {
         match self.0 {
             Slip::RefusalWrites => table.iter_mut().take(1).for_each(|cell| *cell = 0),
             Slip::TicketLost => return Page { ticket: Ticket::ENDED, ..page },
+            Slip::PageRefusalTrials => return Page { trials: 1, ..page },
             _ => {}
         }
         page
@@ -306,6 +354,9 @@ impl Wrong {
         if self.0 == Slip::CapIgnored && count_rows(&layers) <= (table.len() / k) as u64 {
             return Run { number: 0, rows: count_rows(&layers) as u32, trials: 0, area: 0 };
         }
+        if self.0 == Slip::RunRefusalRows {
+            return Run { rows: count_rows(&layers) as u32, ..refused_run(7) };
+        }
         refused_run(7)
     }
 }
@@ -320,6 +371,9 @@ impl Overlay for Wrong {
         if self.0 == Slip::PlaceBeforeLayer && number == 0 {
             place_before_layer(shape, cells, order);
         }
+        if self.0 == Slip::EightWrites && number == 8 {
+            order.iter_mut().zip(0..).for_each(|(cell, number)| *cell = number);
+        }
         number
     }
 
@@ -329,6 +383,9 @@ impl Overlay for Wrong {
         let too_long = told.number == 0 && row.len() > shape.k as usize;
         if self.0 == Slip::RowTooLong && too_long {
             return Reference.row(shape, cells, &row[..shape.k as usize]);
+        }
+        if self.0 == Slip::RowRefusalArea && told.number != 0 {
+            return RowTold { area: 3, ..told };
         }
         if told.layer == 0 {
             return told;
@@ -347,7 +404,9 @@ impl Overlay for Wrong {
         if self.0 == Slip::OrderPrefix && plan_fault(shape, cells) == 0 {
             return Reference.fresh(shape, cells, &order[..order.len().min(cells.len() / 4)]);
         }
-        Reference.fresh(shape, cells, order)
+        let (number, ticket) = Reference.fresh(shape, cells, order);
+        let going = self.0 == Slip::FreshRefusalGoing && number != 0;
+        (number, Ticket { ended: ticket.ended && !going, ..ticket })
     }
 
     /// The page call with its slips.
@@ -377,6 +436,9 @@ impl Overlay for Wrong {
             }
         }
         match page.stop {
+            Stop::Full if self.0 == Slip::PageCapIgnored && page.rows == 1_000_000 => {
+                cap_ignored(plan, order, page, budget, table)
+            }
             Stop::Refused(_) => self.slip_refused(page, table),
             _ => self.slip_accepted(shape, cells, page, budget, table),
         }
@@ -403,6 +465,7 @@ impl Overlay for Wrong {
     fn read(&self, text: &[u8], cells: &mut [i32]) -> Reading {
         match self.0 {
             Slip::MinusZero => return Reference.read(&without_minus_zero(text), cells),
+            Slip::EightDigits => return Reference.read(&eight_digits_cut(text), cells),
             Slip::LastLineOpen if !text.ends_with(b"\n") => {
                 return Reference.read(&[text, b"\n"].concat(), cells);
             }
@@ -411,6 +474,16 @@ impl Overlay for Wrong {
         let reading = Reference.read(text, cells);
         if self.0 == Slip::CellsEarly && reading.number != 0 {
             write_early(text, cells);
+        }
+        let n: u32 = reading.shape.sizes.iter().sum();
+        let (read, past) = cells.split_at_mut(4 * n as usize);
+        match (self.0, reading.number) {
+            (Slip::SignLost, 0) => read.iter_mut().for_each(|cell| *cell = cell.abs()),
+            (Slip::ReadPast, 0) => past.iter_mut().take(1).for_each(|cell| *cell = 0),
+            (Slip::ReadRefusalShape, 11) => {
+                return Reading { shape: Shape { k: 2, ..reading.shape }, ..reading }
+            }
+            _ => {}
         }
         if self.0 == Slip::TenForNine && reading.number == 9 && text.starts_with(b"PLAN\t9\n") {
             return Reading { number: 10, ..reading };
@@ -427,6 +500,9 @@ impl Overlay for Wrong {
         if self.0 == Slip::TwelveWrites && writing.number == 12 {
             text.iter_mut().zip(b"PLAN\t").for_each(|(cell, byte)| *cell = *byte);
         }
+        if self.0 == Slip::WriteRefusalLength && writing.number == 12 {
+            return Writing { length: text.len() + 1, ..writing };
+        }
         writing
     }
 }
@@ -437,10 +513,11 @@ impl Overlay for Wrong {
 pub type Report = fn(&[u8]) -> Vec<u8>;
 
 /// Every wrong report with its description.
-pub const REPORT_SLIPS: [(Report, &str); 3] = [
+pub const REPORT_SLIPS: [(Report, &str); 4] = [
     (rounded_rows, "each row's area rounded before summing"),
     (thirteen_last, "13 asked only of a good text"),
     (thirteen_at_limit, "13 at 65,536 bytes"),
+    (cut_short, "a report cut short at 65,536 bytes"),
 ];
 
 /// The report with each row's area rounded to hundredths of a square metre before summing.
@@ -481,4 +558,11 @@ fn thirteen_at_limit(input: &[u8]) -> Vec<u8> {
     } else {
         report(input)
     }
+}
+
+/// The report as far as a buffer of 65,536 bytes takes it.
+fn cut_short(input: &[u8]) -> Vec<u8> {
+    let mut printed = report(input);
+    printed.truncate(65_536);
+    printed
 }

@@ -1,14 +1,16 @@
--- Theorem: the cases of 01's "Ground to check" that are marked (P), and those of its "The report", as one list, and what it means that a case holds of
--- the definitions.
+-- Theorem: the cases of 01's "Ground to check" that are marked (P), those of its "The report", and a few of our own, as one list, and what it means that a
+-- case holds of the definitions.
 use mathlib.Core.Path.{_≡_}
+use mathlib.Core.Bool.{false}
 use mathlib.Core.List.{List, [], _∷_, _++_, map}
-use Prim.Native.Nat.{ℕ}
+use Prim.Native.Nat.{ℕ, _*_}
 use Prim.Native.Char.{code}
 use Prim.Native.String.{String}
 use Prim.Native.String as String
-use lib.IntN.{ℤ, pos}
-use lib.ListN.{length}
+use lib.IntN.{ℤ, pos, negℤ}
+use lib.ListN.{length, replicate}
 use Rattle.lists.specs.Lists.{All}
+use Rattle.totals.specs.Totals.{valueOf}
 use Rattle.plan.specs.declared.Shape.{Shape}
 use Rattle.plan.specs.Plan.{sizesOf, planCause}
 use Rattle.sweep.specs.Sweep.{sweepOrder}
@@ -16,10 +18,10 @@ use Rattle.join.specs.Table.{tableOf}
 use Rattle.rows.specs.RowCall.{rowCall, rowValues}
 use Rattle.walk.specs.Walk.{walkOf}
 use Rattle.paging.specs.declared.Cursor.{Cursor}
-use Rattle.paging.specs.declared.Stop.{Stop}
-use Rattle.paging.specs.declared.Stop.the-variants.{Ended, Full, Spent}
+use Rattle.search.specs.declared.Stop.{Stop}
+use Rattle.search.specs.declared.Stop.the-variants.{Ended, Full, Spent}
 use Rattle.paging.specs.Cursors.{endedCursor}
-use Rattle.paging.specs.Calls.{freshCall, pageCall}
+use Rattle.paging.specs.Calls.{freshCall, pageCall, pageTable}
 use Rattle.text.specs.declared.Reading.{Reading}
 use Rattle.text.specs.Reader.{readAnswer, cellsAfter}
 use Rattle.printing.specs.Lines.{hundredths, squareMetres}
@@ -32,13 +34,16 @@ pub record Told : Type 0 where
   pub places : List ℕ
   pub area : ℕ
 
--- a page call's budget and table, and what it must answer
+-- a page call's budget and table, and what it must answer: stop, rows, probes, area, the table afterwards, the cursor
 pub record Turn : Type 0 where
   pub budget : ℕ
   pub table : List ℕ
   pub stop : Stop
   pub rows : ℕ
   pub probes : ℕ
+  pub area : ℕ
+  pub after : List ℕ
+  pub due : Cursor
 
 pub data Case : Type 0 where
   -- a plan is refused with this cause, or with 0 is sound
@@ -57,19 +62,22 @@ pub data Case : Type 0 where
   Reported : List ℕ → List ℕ → Case
 
 -- what the row call tells of a row
-abbrev pub told : Shape → List ℤ → List ℕ → Told
-told s cells row = let v = rowValues (rowCall s cells row) in record { layer = v .layer; places = row; area = v .area }
+abbrev pub toldRow : Shape → List ℤ → List ℕ → Told
+toldRow s cells row = let v = rowValues (rowCall s cells row) in record { layer = v .layer; places = row; area = v .area }
 
 -- each turn goes on with the cursor that the turn before returned
 abbrev pub Turns : Shape → List ℤ → Cursor → List Turn → Type 0
 Turns s cells c [] = Unit {0}
 Turns s cells c (t ∷ ts) =
     let p = pageCall s cells (sweepOrder cells) c (t .budget) (t .table) in
-    (p .stop ≡ t .stop) × (p .rows ≡ t .rows) × (p .probes ≡ t .probes) × Turns s cells (p .cursor) ts
+    (p .stop ≡ t .stop) × (p .rows ≡ t .rows) × (p .probes ≡ t .probes) × (valueOf (p .area) ≡ t .area)
+    × (pageTable s cells (sweepOrder cells) c (t .budget) (t .table) ≡ t .after)
+    × (p .cursor ≡ t .due)
+    × Turns s cells (p .cursor) ts
 
 abbrev pub Holds : Case → Type 0
 Holds (Caused s cells cause) = planCause s cells ≡ cause
-Holds (Listed s cells rows probes) = (planCause s cells ≡ 0) × (map (told s cells) (tableOf (sizesOf s) cells) ≡ rows) × (length (walkOf (sizesOf s) cells) ≡ probes)
+Holds (Listed s cells rows probes) = (planCause s cells ≡ 0) × (map (toldRow s cells) (tableOf (sizesOf s) cells) ≡ rows) × (length (walkOf (sizesOf s) cells) ≡ probes)
 Holds (Fresh s cells c) = freshCall s cells (sweepOrder cells) ≡ record { number = 0; cursor = c }
 Holds (Read t cells r after) = (readAnswer (length cells) t ≡ r) × (cellsAfter t cells ≡ after)
 Holds (Paged s cells ts) = Turns s cells (freshCall s cells (sweepOrder cells) .cursor) ts
@@ -86,8 +94,13 @@ shape k a b c = record { k = k; sizes = a ∷ b ∷ c ∷ 0 ∷ 0 ∷ 0 ∷ [] }
 abbrev pub row : ℕ → List ℕ → ℕ → Told
 row layer places area = record { layer = layer; places = places; area = area }
 
-abbrev pub turn : ℕ → List ℕ → Stop → ℕ → ℕ → Turn
-turn budget table stop rows probes = record { budget = budget; table = table; stop = stop; rows = rows; probes = probes }
+abbrev pub turn : ℕ → List ℕ → Stop → (rows probes area : ℕ) → List ℕ → Cursor → Turn
+turn budget table stop rows probes area after due =
+    record { budget = budget; table = table; stop = stop; rows = rows; probes = probes; area = area; after = after; due = due }
+
+-- the cursor of a probe of the first slot: the guard's layer and place, and the place to try
+abbrev pub first : (layer place next : ℕ) → Cursor
+first layer place next = record { ended = false; layer = layer; place = place; filled = 0; chosen = 0 ∷ 0 ∷ 0 ∷ 0 ∷ 0 ∷ []; next = next }
 
 -- the plan D
 abbrev pub d : Shape
@@ -96,19 +109,27 @@ d = shape 2 2 1 0
 abbrev pub dCells : List ℤ
 dCells = box 0 0 1000 1000 (box 1000 0 2000 500 (box 500 500 1500 1500 []))
 
--- tables of two and of ten cells
-abbrev pub two : List ℕ
-two = 7 ∷ 7 ∷ []
+-- tables of two and of ten cells, of which the first two are these
+abbrev pub two : ℕ → ℕ → List ℕ
+two a b = a ∷ b ∷ []
 
-abbrev pub ten : List ℕ
-ten = 7 ∷ 7 ∷ 7 ∷ 7 ∷ 7 ∷ 7 ∷ 7 ∷ 7 ∷ 7 ∷ 7 ∷ []
+abbrev pub ten : ℕ → ℕ → List ℕ
+ten a b = a ∷ b ∷ 7 ∷ 7 ∷ 7 ∷ 7 ∷ 7 ∷ 7 ∷ 7 ∷ 7 ∷ []
 
 -- one rectangle, and the same twice
 abbrev pub one : List ℤ
 one = box 2 2 4 4 []
 
-abbrev pub same : List ℤ
-same = box 2 2 4 4 one
+abbrev pub twoAlike : List ℤ
+twoAlike = box 2 2 4 4 one
+
+-- a plan of three layers: the rows of its one guard that has any, of layer 2, differ by their area
+abbrev pub three : List ℤ
+three = box 0 0 10 10 (box 0 0 10 9 (box 5 0 10 10 (box 1 0 10 10 (box 2 0 8 10 []))))
+
+-- the cells of n rectangles that are all the point 0, 0
+abbrev pub alike : ℕ → List ℤ
+alike n = replicate (4 * n) (pos 0)
 
 -- ---- the texts
 -- the bytes of a quoted text of characters below 128
@@ -121,15 +142,40 @@ abbrev pub textWith : String → List ℕ
 textWith right = bytes "PLAN\t2\nLAYER\t1\nRECT\t0\t0\t" ++ bytes right ++ bytes "\t5\nLAYER\t0\n"
 
 -- that it is refused: the lent cells stay
-abbrev pub refused : List ℕ → ℕ → Case
-refused t cause = Read t (box 7 7 7 7 []) (record { number = cause; shape = shape 0 0 0 0 }) (box 7 7 7 7 [])
+abbrev pub isRefused : List ℕ → ℕ → Case
+isRefused t cause = Read t (box 7 7 7 7 []) (record { number = cause; shape = shape 0 0 0 0 }) (box 7 7 7 7 [])
 
--- the plan D as a text, and its report
+-- the plan D as a text, byte by byte: PLAN 2 / LAYER 2 / RECT 0 0 1000 1000 / RECT 1000 0 2000 500 / LAYER 1 / RECT 500 500 1500 1500
 abbrev pub dText : List ℕ
-dText = bytes "PLAN\t2\nLAYER\t2\nRECT\t0\t0\t1000\t1000\nRECT\t1000\t0\t2000\t500\nLAYER\t1\nRECT\t500\t500\t1500\t1500\n"
+dText =
+    80 ∷ 76 ∷ 65 ∷ 78 ∷ 9 ∷ 50 ∷ 10
+    ∷ 76 ∷ 65 ∷ 89 ∷ 69 ∷ 82 ∷ 9 ∷ 50 ∷ 10
+    ∷ 82 ∷ 69 ∷ 67 ∷ 84 ∷ 9 ∷ 48 ∷ 9 ∷ 48 ∷ 9 ∷ 49 ∷ 48 ∷ 48 ∷ 48 ∷ 9 ∷ 49 ∷ 48 ∷ 48 ∷ 48 ∷ 10
+    ∷ 82 ∷ 69 ∷ 67 ∷ 84 ∷ 9 ∷ 49 ∷ 48 ∷ 48 ∷ 48 ∷ 9 ∷ 48 ∷ 9 ∷ 50 ∷ 48 ∷ 48 ∷ 48 ∷ 9 ∷ 53 ∷ 48 ∷ 48 ∷ 10
+    ∷ 76 ∷ 65 ∷ 89 ∷ 69 ∷ 82 ∷ 9 ∷ 49 ∷ 10
+    ∷ 82 ∷ 69 ∷ 67 ∷ 84 ∷ 9 ∷ 53 ∷ 48 ∷ 48 ∷ 9 ∷ 53 ∷ 48 ∷ 48 ∷ 9 ∷ 49 ∷ 53 ∷ 48 ∷ 48 ∷ 9 ∷ 49 ∷ 53 ∷ 48 ∷ 48 ∷ 10
+    ∷ []
 
+-- its report: ROW 2 0 0 250000 / ROW 1 1 0 0 / TOTAL 2 4 0.25
 abbrev pub dReport : List ℕ
-dReport = bytes "ROW\t2\t0\t0\t250000\nROW\t1\t1\t0\t0\nTOTAL\t2\t4\t0.25\n"
+dReport =
+    82 ∷ 79 ∷ 87 ∷ 9 ∷ 50 ∷ 9 ∷ 48 ∷ 9 ∷ 48 ∷ 9 ∷ 50 ∷ 53 ∷ 48 ∷ 48 ∷ 48 ∷ 48 ∷ 10
+    ∷ 82 ∷ 79 ∷ 87 ∷ 9 ∷ 49 ∷ 9 ∷ 49 ∷ 9 ∷ 48 ∷ 9 ∷ 48 ∷ 10
+    ∷ 84 ∷ 79 ∷ 84 ∷ 65 ∷ 76 ∷ 9 ∷ 50 ∷ 9 ∷ 52 ∷ 9 ∷ 48 ∷ 46 ∷ 50 ∷ 53 ∷ 10
+    ∷ []
+
+-- PLAN 2 / LAYER 1 / RECT -30 -4, a right, 5 / LAYER 0, byte by byte
+abbrev pub bytesWith : List ℕ → List ℕ
+bytesWith right =
+    80 ∷ 76 ∷ 65 ∷ 78 ∷ 9 ∷ 50 ∷ 10
+    ∷ 76 ∷ 65 ∷ 89 ∷ 69 ∷ 82 ∷ 9 ∷ 49 ∷ 10
+    ∷ 82 ∷ 69 ∷ 67 ∷ 84 ∷ 9 ∷ 45 ∷ 51 ∷ 48 ∷ 9 ∷ 45 ∷ 52 ∷ 9
+    ∷ (right ++ 9 ∷ 53 ∷ 10
+    ∷ 76 ∷ 65 ∷ 89 ∷ 69 ∷ 82 ∷ 9 ∷ 48 ∷ 10 ∷ [])
+
+-- REFUSED 9
+abbrev pub refusedNine : List ℕ
+refusedNine = 82 ∷ 69 ∷ 70 ∷ 85 ∷ 83 ∷ 69 ∷ 68 ∷ 9 ∷ 57 ∷ 10 ∷ []
 
 -- a plan of two rows of 4,900 square millimetres, and its report
 abbrev pub smallText : List ℕ
@@ -144,31 +190,31 @@ cases =
     -- "D: two rows, four trials."
     Listed d dCells (row 2 (0 ∷ 0 ∷ []) 250000 ∷ row 1 (1 ∷ 0 ∷ []) 0 ∷ []) 4
     -- "D, budget 2, ten cells: one row, Spent; again: one row, Ended."
-    ∷ Paged d dCells (turn 2 ten Spent 1 2 ∷ turn 2 ten Ended 1 2 ∷ [])
+    ∷ Paged d dCells (turn 2 (ten 7 7) Spent 1 2 250000 (ten 0 0) (first 2 0 1) ∷ turn 2 (ten 7 7) Ended 1 2 0 (ten 1 0) endedCursor ∷ [])
     -- "D, a table of two cells, budget 9: two trials, Full; again: two trials, Ended."
-    ∷ Paged d dCells (turn 9 two Full 1 2 ∷ turn 9 two Ended 1 2 ∷ [])
+    ∷ Paged d dCells (turn 9 (two 7 7) Full 1 2 250000 (two 0 0) (first 2 0 1) ∷ turn 9 (two 7 7) Ended 1 2 0 (two 1 0) endedCursor ∷ [])
     -- "D, budget 0 and no cells: Full."
-    ∷ Paged d dCells (turn 0 [] Full 0 0 ∷ [])
+    ∷ Paged d dCells (turn 0 [] Full 0 0 0 [] (first 1 0 0) ∷ [])
     -- "One equal rectangle in each of two layers: one row, guard in layer 1, two trials."
-    ∷ Listed (shape 2 1 1 0) same (row 1 (0 ∷ 0 ∷ []) 4 ∷ []) 2
+    ∷ Listed (shape 2 1 1 0) twoAlike (row 1 (0 ∷ 0 ∷ []) 4 ∷ []) 2
     -- "Sizes 1 and 0: no trials, fresh ticket Ended."
     ∷ Listed (shape 2 1 0 0) one [] 0
     ∷ Fresh (shape 2 1 0 0) one endedCursor
     -- "Sizes 1, 1, 0 with the two equal: two trials, no row."
-    ∷ Listed (shape 3 1 1 0) same [] 2
+    ∷ Listed (shape 3 1 1 0) twoAlike [] 2
     -- "the right of one at 9 and the left of the other at 10: no row; at 10 and 10: a row"
     ∷ Listed (shape 2 1 1 0) (box 0 0 9 5 (box 10 0 20 5 [])) [] 2
     ∷ Listed (shape 2 1 1 0) (box 0 0 10 5 (box 10 0 20 5 [])) (row 2 (0 ∷ 0 ∷ []) 0 ∷ []) 2
     -- "As the right of a RECT at left 0, in a text otherwise sound: -0 and 07 give 9; 1000001 gives 10; 1000000 is read."
-    ∷ refused (textWith "-0") 9
-    ∷ refused (textWith "07") 9
-    ∷ refused (textWith "1000001") 10
+    ∷ isRefused (textWith "-0") 9
+    ∷ isRefused (textWith "07") 9
+    ∷ isRefused (textWith "1000001") 10
     ∷ Read (textWith "1000000") (box 7 7 7 7 (pos 7 ∷ [])) (record { number = 0; shape = shape 2 1 0 0 }) (box 0 0 1000000 5 (pos 7 ∷ []))
     -- "Empty text gives 9. A text without its last byte 10 gives 9."
-    ∷ refused [] 9
-    ∷ refused (bytes "PLAN\t2\nLAYER\t0\nLAYER\t0") 9
-    -- "512 is a size, 513 gives 2": with no cells, the first passes check 2 and has cause 3
-    ∷ Caused (shape 2 512 0 0) [] 3
+    ∷ isRefused [] 9
+    ∷ isRefused (bytes "PLAN\t2\nLAYER\t0\nLAYER\t0") 9
+    -- "512 is a size, 513 gives 2"
+    ∷ Caused (shape 2 512 0 0) (alike 512) 0
     ∷ Caused (shape 2 513 0 0) [] 2
     -- "4,999 gives 0.00, 5,000 gives 0.01"
     ∷ Rounded 4999 (bytes "0.00")
@@ -181,6 +227,19 @@ cases =
     ∷ Reported dText dReport
     -- of two areas that are rounded to 0.00 each, the sum is rounded to 0.01
     ∷ Reported smallText smallReport
+    -- ours: a refusal, in bytes
+    ∷ Reported [] refusedNine
+    -- ours: a text in bytes, with numbers below 0 and a left that is not the bottom; a number of eight digits
+    ∷ Read (bytesWith (50 ∷ 48 ∷ [])) (box 7 7 7 7 (pos 7 ∷ [])) (record { number = 0; shape = shape 2 1 0 0 }) (negℤ (pos 30) ∷ negℤ (pos 4) ∷ pos 20 ∷ pos 5 ∷ pos 7 ∷ [])
+    ∷ isRefused (bytesWith (49 ∷ 48 ∷ 48 ∷ 48 ∷ 48 ∷ 48 ∷ 48 ∷ 48 ∷ [])) 9
+    -- ours: a second PLAN line, and one that is not first, give 9; too few layers, too many rectangles and RECT before LAYER give 10
+    ∷ isRefused (bytes "PLAN\t2\nPLAN\t2\nLAYER\t0\nLAYER\t0\n") 9
+    ∷ isRefused (bytes "LAYER\t0\nPLAN\t1\n") 9
+    ∷ isRefused (bytes "PLAN\t2\nLAYER\t0\n") 10
+    ∷ isRefused (bytes "PLAN\t2\nLAYER\t0\nRECT\t0\t0\t1\t1\nLAYER\t0\n") 10
+    ∷ isRefused (bytes "PLAN\t2\nRECT\t0\t0\t1\t1\nLAYER\t0\nLAYER\t0\n") 10
+    -- ours: several rows of one guard in three layers, in their order
+    ∷ Listed (shape 3 2 1 2) three (row 2 (0 ∷ 0 ∷ 0 ∷ []) 50 ∷ row 2 (0 ∷ 0 ∷ 1 ∷ []) 30 ∷ row 2 (1 ∷ 0 ∷ 0 ∷ []) 45 ∷ row 2 (1 ∷ 0 ∷ 1 ∷ []) 27 ∷ []) 16
     ∷ []
 
 abbrev pub GroundHolds : Type 0

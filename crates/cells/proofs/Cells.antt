@@ -3,6 +3,7 @@ use mathlib.Core.Path.{_≡_, refl, sym, ap, _∙_}
 use mathlib.Core.List.{List, [], _∷_}
 use mathlib.Core.Bool.{Bool, true, false, cond}
 use Prim.Native.Nat.{ℕ, zero, suc, _≤_, _<_}
+use lib.Dec.{eqb}
 use lib.ListN.{getD}
 use mir.Val.{boolByte}
 use borrow.Author.Tests.{le-leb, lt-leb}
@@ -15,7 +16,7 @@ use Rattle.paging.specs.declared.Run.the-variants.{Refused, Done}
 use Rattle.paging.specs.declared.Cursor.{Cursor}
 use Rattle.paging.specs.declared.Page.{Page}
 use Rattle.paging.specs.Calls.{stopNumber, runValues}
-use Rattle.cells.specs.Cells.{cursorCells, noCursor, plainCursor, cursorIn, cursorAfter, runCells}
+use Rattle.cells.specs.Cells.{cursorCells, noCursor, cursorIn, cursorAfter, runCells}
 
 -- a flag as a number
 as-number : (t : Bool) → boolByte t ≡ cond t 1 0
@@ -25,6 +26,11 @@ as-number false = refl
 -- a cursor's cells as they are made
 pub made : (c : Cursor) → boolByte (c .ended) ∷ c .layer ∷ c .place ∷ c .filled ∷ getD (c .chosen) 0 0 ∷ getD (c .chosen) 1 0 ∷ getD (c .chosen) 2 0 ∷ getD (c .chosen) 3 0 ∷ getD (c .chosen) 4 0 ∷ c .next ∷ [] ≡ cursorCells c
 made c = rw (as-number (c .ended)) refl
+
+-- the cursor in cells whose first is 0 or 1
+abbrev pub plainCursor : List ℕ → Cursor
+plainCursor l =
+    record { ended = eqb (getD l 0 0) 1; layer = getD l 1 0; place = getD l 2 0; filled = getD l 3 0; chosen = getD l 4 0 ∷ getD l 5 0 ∷ getD l 6 0 ∷ getD l 7 0 ∷ getD l 8 0 ∷ []; next = getD l 9 0 }
 
 -- cells whose first is above 1 are no cursor
 pub in-none : (l : List ℕ) → 1 < getD l 0 0 → noCursor ≡ cursorIn l

@@ -1,8 +1,9 @@
--- Cursors go into cells and back, and cells that are no cursor are refused.
-use mathlib.Core.Path.{_≡_, refl, ap, _∙_}
-use mathlib.Core.List.{List, [], _∷_}
+-- Cursors go into cells and back, so lists of exported calls are lists of calls; cells that are no cursor are refused.
+use mathlib.Core.Path.{_≡_, refl, sym, ap, _∙_, subst}
+use mathlib.Core.List.{List, [], _∷_, map}
 use mathlib.Core.Option.{none}
 use mathlib.Core.Bool.{Bool, true, false}
+use mathlib.Core.Logic.{_↔_}
 use Prim.Native.Nat.{ℕ, zero, suc, _-_, _<_}
 use native.Mathlib.Omega.{arith}
 use lib.IntN.{ℤ}
@@ -11,10 +12,11 @@ use Rattle.lists.proofs.Padding.{padded-long}
 use Rattle.geometry.specs.declared.Rect.{Rect}
 use Rattle.plan.specs.declared.Shape.{Shape}
 use Rattle.plan.specs.Causes.{onCause}
-use Rattle.plan.specs.Plan.{sizesOf}
-use Rattle.sweep.specs.Sweep.{orderCause}
+use Rattle.plan.specs.Plan.{sizesOf, Typed}
+use Rattle.sweep.specs.Sweep.{sweepOrder, orderCause}
+use Rattle.search.specs.declared.Stop.{Stop}
+use Rattle.search.specs.declared.Stop.the-variants.{Ended, Full, Spent, Refused}
 use Rattle.search.specs.Traversal.{Probe}
-use Rattle.search.specs.Paging as Paging
 use Rattle.paging.specs.declared.Cursor.{Cursor}
 use Rattle.paging.specs.declared.Fresh.{Fresh}
 use Rattle.paging.specs.declared.Page.{Page}
@@ -22,9 +24,12 @@ use Rattle.paging.specs.Cursors.{dueCursor, endedCursor, sameCursor, findIn, re
 use Rattle.paging.specs.Calls.{freshCall, stopNumber, refusedPage, pageCause, pageCall}
 use Rattle.paging.specs.Overlays.{overlay}
 use Rattle.paging.specs.Pages.{paged, pageOf}
+use Rattle.paging.specs.Theorems.{Call, served, Chain, PagingHolds}
+use Rattle.paging.specs.Theorems as Paging
 use Rattle.paging.proofs.Causes.{stop-none}
-use Rattle.cells.specs.Cells.{cursorCells, noCursor, cursorIn, cursorAfter}
-use Rattle.cells.specs.Theorems.{CursorsInCells}
+use Rattle.paging.proofs.Theorems.{demand3}
+use Rattle.cells.specs.Cells.{cursorCells, noCursor, cursorIn, stopCode, cursorAfter}
+use Rattle.cells.specs.Theorems.{CellChain, end, refused, accepted, CursorsInCells}
 use Rattle.cells.proofs.Cells.{in-none}
 
 -- five cells, read one by one
@@ -66,7 +71,7 @@ next : (s : Shape) (cells : List ℤ) (order given : List ℕ) (budget : ℕ) (t
 unfolding pageCall
 next s cells order given budget table =
     let p = paged (overlay s cells) (cursorIn given) budget table in
-    chosen-next given (pageCause s cells order (cursorIn given)) (pageOf (overlay s cells) p) (stop-none (p .halt)) (back (dueCursor (sizesOf s) (p .rest)) (due-five (sizesOf s) (p .rest)))
+    chosen-next given (pageCause s cells order (cursorIn given)) (pageOf (overlay s cells) p) (stop-none (overlay s cells) (cursorIn given) budget table) (back (dueCursor (sizesOf s) (p .rest)) (due-five (sizesOf s) (p .rest)))
 
 -- no probe has the cursor that stands for none
 not-found : (ns : List ℕ) (w : List (Probe Rect)) → findIn ns noCursor w ≡ none
@@ -78,9 +83,32 @@ no-resume : (s : Shape) (cells : List ℤ) → resume (overlay s cells) noCursor
 unfolding resume sameCursor
 no-resume s cells = not-found (sizesOf s) (overlay s cells .walk)
 
-refused : (s : Shape) (cells : List ℤ) (order given : List ℕ) → 1 < getD given 0 0 → orderCause s cells order ≡ 0 → pageCause s cells order (cursorIn given) ≡ 6
+none-refused : (s : Shape) (cells : List ℤ) (order given : List ℕ) → 1 < getD given 0 0 → orderCause s cells order ≡ 0 → pageCause s cells order (cursorIn given) ≡ 6
 unfolding pageCause
-refused s cells order given high sound = rw (← in-none given high) (rw sound (rw (no-resume s cells) refl))
+none-refused s cells order given high sound = rw (← in-none given high) (rw sound (rw (no-resume s cells) refl))
+
+-- ---- lists of exported calls
+module _ (s : Shape) (cells : List ℤ) where
+  -- they are lists of calls
+  chain : {due : List ℕ} {xs : List Call} → CellChain s cells due xs → Chain s cells (cursorIn due) xs
+  chain end = Paging.end
+  chain (refused n h) = Paging.refused n (chain h)
+  chain (accepted {due = due} {x = x} {xs = xs} e p q k h) = Paging.accepted e p q k (subst (λ (c : Cursor). Chain s cells c xs) left (chain h))
+    where
+      left : cursorIn (cursorAfter due (served x .answer)) ≡ served x .answer .cursor
+      left =
+          subst (λ (c : Cursor). let p = pageCall (x .shape) (x .cells) (x .order) c (x .budget) (x .table) in cursorIn (cursorAfter due p) ≡ p .cursor) (sym k)
+          (next (x .shape) (x .cells) (x .order) due (x .budget) (x .table))
+
+  cell-paging : (xs : List Call) → Typed s → CellChain s cells (cursorCells (freshCall s cells (sweepOrder cells) .cursor)) xs → PagingHolds (overlay s cells) (map served xs)
+  cell-paging xs typed h = demand3 .paging s cells xs typed (subst (λ (c : Cursor). Chain s cells c xs) (first s cells (sweepOrder cells)) (chain h))
+
+-- ---- codes
+stops : (stop : Stop) → ((stopCode stop ≡ 1) ↔ (stop ≡ Ended)) × ((stopCode stop ≡ 2) ↔ (stop ≡ Full)) × ((stopCode stop ≡ 3) ↔ (stop ≡ Spent))
+stops Ended = ((λ e. refl, λ e. refl), (λ e. absurd (omega arith), λ e. cc), (λ e. absurd (omega arith), λ e. cc))
+stops Full = ((λ e. absurd (omega arith), λ e. cc), (λ e. refl, λ e. refl), (λ e. absurd (omega arith), λ e. cc))
+stops Spent = ((λ e. absurd (omega arith), λ e. cc), (λ e. absurd (omega arith), λ e. cc), (λ e. refl, λ e. refl))
+stops (Refused cause) = ((λ e. absurd (omega arith), λ e. cc), (λ e. absurd (omega arith), λ e. cc), (λ e. absurd (omega arith), λ e. cc))
 
 pub cursors-in-cells : CursorsInCells
-cursors-in-cells = record { first = first; next = next; refused = refused }
+cursors-in-cells = record { paging = cell-paging; stops = stops; refused = none-refused }

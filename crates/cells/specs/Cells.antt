@@ -10,8 +10,8 @@ use Rattle.plan.specs.Causes.{onCause}
 use Rattle.rows.specs.RowCall.{RowValues}
 use Rattle.paging.specs.declared.Cursor.{Cursor}
 use Rattle.paging.specs.declared.Page.{Page}
-use Rattle.paging.specs.declared.Stop.{Stop}
-use Rattle.paging.specs.declared.Stop.the-variants.{Ended, Full, Spent, Refused}
+use Rattle.search.specs.declared.Stop.{Stop}
+use Rattle.search.specs.declared.Stop.the-variants.{Ended, Full, Spent, Refused}
 use Rattle.paging.specs.Calls.{stopNumber, RunValues}
 
 -- the plan's shape of k and six sizes
@@ -27,14 +27,10 @@ cursorCells c =
 abbrev pub noCursor : Cursor
 noCursor = record { ended = true; layer = 1; place = 0; filled = 0; chosen = 0 ∷ 0 ∷ 0 ∷ 0 ∷ 0 ∷ []; next = 0 }
 
--- the cursor in cells whose first is 0 or 1
-abbrev pub plainCursor : List ℕ → Cursor
-plainCursor l =
-    record { ended = eqb (getD l 0 0) 1; layer = getD l 1 0; place = getD l 2 0; filled = getD l 3 0; chosen = getD l 4 0 ∷ getD l 5 0 ∷ getD l 6 0 ∷ getD l 7 0 ∷ getD l 8 0 ∷ []; next = getD l 9 0 }
-
 -- the cursor in cells; a first cell above 1 makes them none
 abbrev pub cursorIn : List ℕ → Cursor
-cursorIn l = cond (leb (getD l 0 0) 1) (plainCursor l) noCursor
+cursorIn l =
+    cond (leb (getD l 0 0) 1) (record { ended = eqb (getD l 0 0) 1; layer = getD l 1 0; place = getD l 2 0; filled = getD l 3 0; chosen = getD l 4 0 ∷ getD l 5 0 ∷ getD l 6 0 ∷ getD l 7 0 ∷ getD l 8 0 ∷ []; next = getD l 9 0 }) noCursor
 
 -- ---- pages: why it stopped (1 Ended, 2 Full, 3 Spent), rows, probes, area
 abbrev pub stopCode : Stop → ℕ

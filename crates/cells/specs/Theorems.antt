@@ -1,19 +1,31 @@
--- Theorem: what is promised of cursors in cells. Proved in proofs/Theorems.antt.
+-- Theorem: demand 3 of the exported calls, whose cursors are cells. Proved in proofs/Theorems.antt.
 use mathlib.Core.Path.{_≡_}
-use mathlib.Core.List.{List}
+use mathlib.Core.List.{List, [], _∷_, map}
+use mathlib.Core.Logic.{_↔_}
 use Prim.Native.Nat.{ℕ, _<_}
 use lib.IntN.{ℤ}
 use lib.ListN.{getD}
 use Rattle.plan.specs.declared.Shape.{Shape}
-use Rattle.sweep.specs.Sweep.{orderCause}
-use Rattle.paging.specs.Calls.{freshCall, pageCause, pageCall}
-use Rattle.cells.specs.Cells.{cursorCells, cursorIn, cursorAfter}
+use Rattle.plan.specs.Plan.{Typed}
+use Rattle.sweep.specs.Sweep.{sweepOrder, orderCause}
+use Rattle.search.specs.declared.Stop.{Stop}
+use Rattle.search.specs.declared.Stop.the-variants.{Ended, Full, Spent}
+use Rattle.paging.specs.Overlays.{overlay}
+use Rattle.paging.specs.Calls.{freshCall, pageCause}
+use Rattle.paging.specs.Theorems.{Call, served, PagingHolds}
+use Rattle.cells.specs.Cells.{cursorCells, cursorIn, stopCode, cursorAfter}
 
--- lists of calls through cells are lists of calls with cursors
+-- a list of exported page calls, by the calls that they hand on: an accepted one brings, in its cursor's cells, what the accepted one before it left
+-- there or, if there is none, what the fresh call did; `due` is these cells. A refused call may bring anything
+pub data CellChain (s : Shape) (cells : List ℤ) : List ℕ → List Call → Type 0 where
+  end : {due : List ℕ} → CellChain s cells due []
+  refused : {due : List ℕ} {x : Call} {xs : List Call} → (served x .cause ≡ 0 → ⊥) → CellChain s cells due xs → CellChain s cells due (x ∷ xs)
+  accepted : {due : List ℕ} {x : Call} {xs : List Call} → served x .cause ≡ 0 → x .shape ≡ s → x .cells ≡ cells → x .cursor ≡ cursorIn due → CellChain s cells (cursorAfter due (served x .answer)) xs → CellChain s cells due (x ∷ xs)
+
 pub record CursorsInCells : Type 0 where
-  -- the cells of a fresh cursor hold it
-  pub first : (s : Shape) (cells : List ℤ) (order : List ℕ) → cursorIn (cursorCells (freshCall s cells order .cursor)) ≡ freshCall s cells order .cursor
-  -- the cells that a page leaves hold the cursor that it returns, refused or not
-  pub next : (s : Shape) (cells : List ℤ) (order given : List ℕ) (budget : ℕ) (table : List ℕ) → let p = pageCall s cells order (cursorIn given) budget table in cursorIn (cursorAfter given p) ≡ p .cursor
+  -- what demand 3 says of lists of calls, of every list of exported ones
+  pub paging : (s : Shape) (cells : List ℤ) (xs : List Call) → Typed s → CellChain s cells (cursorCells (freshCall s cells (sweepOrder cells) .cursor)) xs → PagingHolds (overlay s cells) (map served xs)
+  -- why a page stopped, as its first cell says it
+  pub stops : (stop : Stop) → ((stopCode stop ≡ 1) ↔ (stop ≡ Ended)) × ((stopCode stop ≡ 2) ↔ (stop ≡ Full)) × ((stopCode stop ≡ 3) ↔ (stop ≡ Spent))
   -- cells with a flag above 1 are refused by 6 where no earlier cause applies
   pub refused : (s : Shape) (cells : List ℤ) (order given : List ℕ) → 1 < getD given 0 0 → orderCause s cells order ≡ 0 → pageCause s cells order (cursorIn given) ≡ 6

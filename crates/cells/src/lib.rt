@@ -2,8 +2,8 @@
 use paging::Cursor;
 use paging::Page;
 use paging::Run;
-use paging::Stop;
 use rows::RowAnswer;
+use search::Stop;
 use sweep::OrderAnswer;
 use text::Writing;
 use totals::value;

@@ -6,3 +6,4 @@ pub mod Reading
 pub mod Signs
 pub mod Places
 pub mod Stores
+pub mod Theorems

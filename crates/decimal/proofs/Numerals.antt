@@ -7,7 +7,7 @@ use native.Mathlib.Nat.{le-refl, pow-suc, le-div-iff-mul-le, div-lt-iff-lt-mul, 
 use native.Mathlib.Numerals.{add-one}
 use native.Mathlib.Omega.{arith}
 use lib.Dec.{leb}
-use lib.IntN.{ℤ, pos, negsuc}
+use lib.IntN.{ℤ, pos, negsuc, natAbs}
 use lib.ListN.{length}
 use borrow.Author.Tests.{leb-true, leb-false, le-leb}
 use Rattle.lists.proofs.Tests.{total}
@@ -47,6 +47,19 @@ size-is (suc m) c n h s = go (leb (10 ^ suc m) n) refl (λ l. size-is m c n l s)
         low : (c ≤ m) ⊎ (m < c) → size m n ≡ suc c
         low (inl l) = f l
         low (inr l) = absurd (omega (arith, powers (suc m) c l, powers 1 (suc m) (omega arith), s .least, leb-false (10 ^ suc m) n e))
+
+-- a number below a power has no more digits than this
+pub sized-few : (c m n : ℕ) → Sized c n → n < 10 ^ suc m → c ≤ m
+sized-few c m n s h = go (total c m)
+  where
+    go : (c ≤ m) ⊎ (m < c) → c ≤ m
+    go (inl l) = l
+    go (inr l) = absurd (omega (arith, powers (suc m) c l, s .least))
+
+pub size-below : (m n : ℕ) → m ≤ 19 → n < 10 ^ suc m → size 19 n ≤ suc m
+size-below m n l h =
+    let s = sized 19 n (omega (arith, powers (suc m) 20 (omega arith))) in
+    omega (arith, s .2, sized-few (s .0) m n (s .3) h)
 
 -- n is told by the powers that it lies between; 10^19 and above have twenty digits
 pub size-low : (n c : ℕ) → c < 19 → 10 ^ c ≤ max n 1 → n < 10 ^ (c + 1) → c + 1 ≡ size 19 n
@@ -100,3 +113,9 @@ pub numeral-few : (z : ℤ) → length (numeral z) ≤ 21
 unfolding numeral
 numeral-few (pos n) = omega (arith, length-decimal n, size-most 19 n)
 numeral-few (negsuc n) = omega (arith, length-decimal (suc n), size-most 19 (suc n))
+
+-- one of at most m + 1 digits has these and a minus
+pub numeral-below : (m : ℕ) (z : ℤ) → m ≤ 19 → natAbs z < 10 ^ suc m → length (numeral z) ≤ suc (suc m)
+unfolding numeral
+numeral-below m (pos n) l h = omega (arith, length-decimal n, size-below m n l h)
+numeral-below m (negsuc n) l h = omega (arith, length-decimal (suc n), size-below m (suc n) l h)

@@ -3,14 +3,12 @@ use mathlib.Core.Path.{_≡_, refl, sym, ap, ap₂, _∙_, subst}
 use mathlib.Core.List.{List, [], _∷_, _++_}
 use mathlib.Core.Option.{Option, none, some, Option·some-injective, Option·none-ne-some}
 use mathlib.Core.Bool.{Bool, true, false, cond}
-use mathlib.Core.Logic.{_⊎_, inl, inr}
 use Prim.Native.Nat.{ℕ, zero, suc, _+_, _-_, _*_, _/_, _%_, _^_, _≤_, _<_, zero-le}
 use native.Mathlib.Nat.{le-refl, pow-zero, div-one, div-le-self}
 use native.Mathlib.Omega.{arith}
 use lib.Dec.{lit≤}
 use lib.IntN.{ℤ, pos, negsuc, negℤ}
 use borrow.Author.Tests.{ltb-true, lt-ltb}
-use Rattle.lists.proofs.Tests.{total}
 use Rattle.decimal.specs.declared.Kind.{Kind}
 use Rattle.decimal.specs.declared.Kind.the-variants.{Minus, Zero, Digit, Tab, End, Other}
 use Rattle.decimal.specs.Numerals.{digits, size, decimal, numeral, mostDigits, short}
@@ -19,7 +17,7 @@ use Rattle.decimal.specs.Reading.{Reading, more, afterMinus, magnitude, 
 use Rattle.decimal.specs.Places.{digitNext}
 use Rattle.decimal.proofs.Powers.{tenfold, powers}
 use Rattle.decimal.proofs.Bytes.{Is, kind-is, kind-digit, digit-yes, digit-is}
-use Rattle.decimal.proofs.Numerals.{Sized, sized, front-low, front-high, front-sized, digits-decimal}
+use Rattle.decimal.proofs.Numerals.{Sized, sized, sized-few, front-low, front-high, front-sized, digits-decimal}
 
 -- no digit comes next
 abbrev pub Stops : List ℕ → Type 0
@@ -62,13 +60,6 @@ more-spelled (suc f) v (b ∷ t) = go (isDigit (kindOf b)) refl (more-spelled f 
 
 -- ---- a number from 1 on, and read
 
-few-more : (c n : ℕ) → Sized c n → n < 10 ^ mostDigits → c ≤ (mostDigits - 1)
-few-more c n s h = go (total c (mostDigits - 1))
-  where
-    go : (c ≤ (mostDigits - 1)) ⊎ ((mostDigits - 1) < c) → c ≤ (mostDigits - 1)
-    go (inl l) = l
-    go (inr l) = absurd (omega (arith, powers mostDigits c l, s .least, h))
-
 -- the decimal's first byte is a digit 1 to 9, and from there on the number is read
 pub record Front (n : ℕ) (r : List ℕ) : Type 0 where
   pub first : ℕ
@@ -91,7 +82,7 @@ front n r h k st =
       text = ap (λ (l : List ℕ). l ++ r) (sym (digits-decimal c n (s .1) (s .3)));
       low = omega arith;
       high = omega arith;
-      reads = rw x (more-digits (mostDigits - 1) c n r (few-more c n (s .3) k) st);
+      reads = rw x (more-digits (mostDigits - 1) c n r (sized-few c (mostDigits - 1) n (s .3) k) st);
     }
 
 pub record Fronted (b : ℕ) (t : List ℕ) (n : ℕ) (r : List ℕ) : Type 0 where
@@ -138,12 +129,12 @@ same-pair P y z s r e h =
     let p = Option·some-injective (y, s) (z, r) e in
     subst (λ (q : ℤ × List ℕ). P (q .0) (q .1)) p h
 
-negative-numeral : (n : ℕ) → 0 < n → numeral (negℤ (pos n)) ≡ 45 ∷ decimal n
+pub negative-numeral : (n : ℕ) → 0 < n → numeral (negℤ (pos n)) ≡ 45 ∷ decimal n
 unfolding numeral
 negative-numeral zero h = absurd (omega arith)
 negative-numeral (suc n) h = refl
 
-negative-short : (n : ℕ) → n < 10 ^ mostDigits → short (negℤ (pos n)) ≡ true
+pub negative-short : (n : ℕ) → n < 10 ^ mostDigits → short (negℤ (pos n)) ≡ true
 negative-short zero h = refl
 negative-short (suc n) h = lt-ltb (suc n) (10 ^ mostDigits) h
 

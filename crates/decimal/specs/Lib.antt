@@ -3,3 +3,4 @@ pub mod Bytes
 pub mod Reading
 pub mod Places
 pub mod Stores
+pub mod Theorems

@@ -1,4 +1,4 @@
--- Numbers read from a place of a text, as the code does: no more than private contracts use.
+-- Numbers read from a place of a text, as the code does: what `decimal` promises `line`; no public call's contract cites it.
 use mathlib.Core.Path.{_≡_}
 use mathlib.Core.List.{List, [], _∷_}
 use mathlib.Core.Option.{none, some}

@@ -4,3 +4,4 @@ pub mod Words
 pub mod Places
 pub mod Lengths
 pub mod Fields
+pub mod Theorems

@@ -18,7 +18,7 @@ use Rattle.decimal.specs.Reading.{Reading, number}
 use Rattle.decimal.proofs.Reading.{Stops, number-reads, number-spelled}
 use Rattle.line.specs.declared.Line.{Line}
 use Rattle.line.specs.declared.Line.the-variants.{Plan, Layer, Rectangle}
-use Rattle.line.specs.Lines.{PLAN, LAYER, RECT, put, spellTo, shortRect, shortLine}
+use Rattle.line.specs.Lines.{PLAN, LAYER, RECT, putField, spellTo, shortRect, shortLine}
 use Rattle.line.specs.Parsing.{next, either, behind, field, fieldLine, rectLine, line}
 
 -- ---- what a chain of readings was made of
@@ -42,19 +42,19 @@ behind-spelled (b ∷ w) (a ∷ t) r e = go (eqb b a) refl (behind-spelled w t r
 
 -- ---- a field: a number, and behind it a byte that is no digit
 
-pub field-reads : (z : ℤ) (e : ℕ) (r : List ℕ) → short z ≡ true → Stops (e ∷ r) → field e (put z e r) ≡ some (z, r)
+pub field-reads : (z : ℤ) (e : ℕ) (r : List ℕ) → short z ≡ true → Stops (e ∷ r) → field e (putField z e r) ≡ some (z, r)
 field-reads z e r h st = rw (number-reads z (e ∷ r) h st, behind-reads (e ∷ []) r)
 
-tab-reads : (z : ℤ) (r : List ℕ) → short z ≡ true → field 9 (put z 9 r) ≡ some (z, r)
+tab-reads : (z : ℤ) (r : List ℕ) → short z ≡ true → field 9 (putField z 9 r) ≡ some (z, r)
 unfolding kindOf
 tab-reads z r h = field-reads z 9 r h refl
 
-end-reads : (z : ℤ) (r : List ℕ) → short z ≡ true → field 10 (put z 10 r) ≡ some (z, r)
+end-reads : (z : ℤ) (r : List ℕ) → short z ≡ true → field 10 (putField z 10 r) ≡ some (z, r)
 unfolding kindOf
 end-reads z r h = field-reads z 10 r h refl
 
 pub record Fielded (e : ℕ) (t : List ℕ) (z : ℤ) (r : List ℕ) : Type 0 where
-  pub text : t ≡ put z e r
+  pub text : t ≡ putField z e r
   pub few : short z ≡ true
 
 pub field-spelled : (e : ℕ) (t : List ℕ) (p : ℤ × List ℕ) → field e t ≡ some p → Fielded e t (p .0) (p .1)
@@ -85,9 +85,9 @@ line-reads (Layer n) r h = rw (end-reads n r h)
 line-reads (Rectangle b) r h =
     let s = shorts b h in
     rw (
-      tab-reads (b .left) (put (b .bottom) 9 (put (b .right) 9 (put (b .top) 10 r))) (s .0),
-      tab-reads (b .bottom) (put (b .right) 9 (put (b .top) 10 r)) (s .1),
-      tab-reads (b .right) (put (b .top) 10 r) (s .2),
+      tab-reads (b .left) (putField (b .bottom) 9 (putField (b .right) 9 (putField (b .top) 10 r))) (s .0),
+      tab-reads (b .bottom) (putField (b .right) 9 (putField (b .top) 10 r)) (s .1),
+      tab-reads (b .right) (putField (b .top) 10 r) (s .2),
       end-reads (b .top) r (s .3),
     )
 
@@ -105,13 +105,13 @@ line-pair {t} {p} l r e h =
     subst (λ (q : Line × List ℕ). Lined t (q .0) (q .1)) (Option·some-injective (l, r) p e) h
 
 -- a word, and a number that ends the line
-number-spelled-line : (w : List ℕ) (f : ℤ → Line) (t : List ℕ) (p : Line × List ℕ) → ((z : ℤ) (r : List ℕ) → short z ≡ true → Lined (w ++ put z 10 r) (f z) r)
+number-spelled-line : (w : List ℕ) (f : ℤ → Line) (t : List ℕ) (p : Line × List ℕ) → ((z : ℤ) (r : List ℕ) → short z ≡ true → Lined (w ++ putField z 10 r) (f z) r)
     → next (behind w t) (fieldLine f) ≡ some p → Lined t (p .0) (p .1)
 number-spelled-line w f t p spells e =
     let b = next-some (behind w t) _ p e in
     let k = next-some (field 10 (b .0)) _ p (b .2) in
     let s = field-spelled 10 (b .0) (k .0) (k .1) in
-    let x : t ≡ w ++ put (k .0 .0) 10 (k .0 .1) = behind-spelled w t (b .0) (b .1) ∙ ap (λ (l : List ℕ). w ++ l) (s .text) in
+    let x : t ≡ w ++ putField (k .0 .0) 10 (k .0 .1) = behind-spelled w t (b .0) (b .1) ∙ ap (λ (l : List ℕ). w ++ l) (s .text) in
     line-pair (f (k .0 .0)) (k .0 .1) (k .2) (subst (λ (l : List ℕ). Lined l (f (k .0 .0)) (k .0 .1)) (sym x) (spells (k .0 .0) (k .0 .1) (s .few)))
 
 rect-spelled : (t : List ℕ) (p : Line × List ℕ) → next (behind RECT t) rectLine ≡ some p → Lined t (p .0) (p .1)
@@ -130,7 +130,7 @@ rect-spelled t p e =
       text =
           behind-spelled RECT t (w .0) (w .1)
           ∙ ap (λ (l : List ℕ). RECT ++ l)
-          (sa .text ∙ ap (put (a .0 .0) 9) (sb .text ∙ ap (put (b .0 .0) 9) (sc .text ∙ ap (put (c .0 .0) 9) (sd .text))));
+          (sa .text ∙ ap (putField (a .0 .0) 9) (sb .text ∙ ap (putField (b .0 .0) 9) (sc .text ∙ ap (putField (c .0 .0) 9) (sd .text))));
       few = rw (sa .few, sb .few, sc .few, sd .few);
     })
 

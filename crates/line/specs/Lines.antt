@@ -21,17 +21,17 @@ abbrev pub RECT : List ℕ
 RECT = 82 ∷ 69 ∷ 67 ∷ 84 ∷ 9 ∷ []
 
 -- a number, the byte that ends its field, and the bytes behind
-abbrev pub put : ℤ → ℕ → List ℕ → List ℕ
-put z e r = numeral z ++ e ∷ r
+abbrev pub putField : ℤ → ℕ → List ℕ → List ℕ
+putField z e r = numeral z ++ e ∷ r
 
 -- the four fields of a RECT line, and the bytes behind
 abbrev pub putRect : Rect → List ℕ → List ℕ
-putRect b r = put (b .left) 9 (put (b .bottom) 9 (put (b .right) 9 (put (b .top) 10 r)))
+putRect b r = putField (b .left) 9 (putField (b .bottom) 9 (putField (b .right) 9 (putField (b .top) 10 r)))
 
 -- a line's bytes in front of the bytes behind it
 abbrev pub spellTo : Line → List ℕ → List ℕ
-spellTo (Plan k) r = PLAN ++ put k 10 r
-spellTo (Layer n) r = LAYER ++ put n 10 r
+spellTo (Plan k) r = PLAN ++ putField k 10 r
+spellTo (Layer n) r = LAYER ++ putField n 10 r
 spellTo (Rectangle b) r = RECT ++ putRect b r
 
 -- a rectangle of short numbers

@@ -12,7 +12,7 @@ ghost use lib.ListN.{length};
 ghost use Rattle.decimal.specs.Numerals.{short};
 ghost use Rattle.decimal.specs.Stores.{Put};
 ghost use Rattle.line.specs.declared.Line.the-variants.{Plan, Layer, Rectangle};
-ghost use Rattle.line.specs.Lines.{put, spellTo, shortRect};
+ghost use Rattle.line.specs.Lines.{putField, spellTo, shortRect};
 
 // The PLAN line of k; the place behind it.
 pub fn put_plan_line(buf: &mut [u8], at: usize, k: u32) -> usize
@@ -42,8 +42,8 @@ pub fn put_rect_line(buf: &mut [u8], at: usize, r: Rect) -> usize
 
 // A line of a word and a number; the place behind it.
 fn put_count(buf: &mut [u8], at: usize, word: &[u8], n: u32) -> usize
-    requires { ⌜ at + length (now word ++ put (pos n) 10 []) ≤ length (now buf) ⌝ }
-    ensures { λ r. ⌜ Put (now (buf .entry)) at (now (word .entry) ++ put (pos n) 10 []) (now (buf .exit)) r ⌝ }
+    requires { ⌜ at + length (now word ++ putField (pos n) 10 []) ≤ length (now buf) ⌝ }
+    ensures { λ r. ⌜ Put (now (buf .entry)) at (now (word .entry) ++ putField (pos n) 10 []) (now (buf .exit)) r ⌝ }
 {
     let a = put_word(buf, at, word);
     let b = put_decimal(buf, a, n as u64);
@@ -54,8 +54,8 @@ fn put_count(buf: &mut [u8], at: usize, word: &[u8], n: u32) -> usize
 // The two fields of a corner, the second ended by the byte e; the place behind them.
 fn put_corner(buf: &mut [u8], at: usize, x: i32, y: i32, e: u8) -> usize
     requires { ⌜ (short x ≡ true) × (short y ≡ true) ⌝ }
-    requires { ⌜ at + length (put x 9 (put y e [])) ≤ length (now buf) ⌝ }
-    ensures { λ r. ⌜ Put (now (buf .entry)) at (put x 9 (put y e [])) (now (buf .exit)) r ⌝ }
+    requires { ⌜ at + length (putField x 9 (putField y e [])) ≤ length (now buf) ⌝ }
+    ensures { λ r. ⌜ Put (now (buf .entry)) at (putField x 9 (putField y e [])) (now (buf .exit)) r ⌝ }
 {
     let next = put_field(buf, at, x, b'\t');
     put_field(buf, next, y, e)
@@ -63,8 +63,8 @@ fn put_corner(buf: &mut [u8], at: usize, x: i32, y: i32, e: u8) -> usize
 
 // A number and the byte that ends its field; the place behind it.
 fn put_field(buf: &mut [u8], at: usize, z: i32, e: u8) -> usize
-    requires { ⌜ (short z ≡ true) × (at + length (put z e []) ≤ length (now buf)) ⌝ }
-    ensures { λ r. ⌜ Put (now (buf .entry)) at (put z e []) (now (buf .exit)) r ⌝ }
+    requires { ⌜ (short z ≡ true) × (at + length (putField z e []) ≤ length (now buf)) ⌝ }
+    ensures { λ r. ⌜ Put (now (buf .entry)) at (putField z e []) (now (buf .exit)) r ⌝ }
 {
     let next = put_number(buf, at, z);
     buf[next] = e;

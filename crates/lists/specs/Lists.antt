@@ -20,10 +20,6 @@ pub data Pairwise {A : Type 0} (R : A → A → Type 0) : List A → Type 0 wher
 abbrev pub Distinct : {A : Type 0} → List A → Type 0
 Distinct l = Pairwise (λ a b. a ≡ b → ⊥) l
 
--- each number is below n
-abbrev pub Below : ℕ → List ℕ → Type 0
-Below n l = All (λ k. k < n) l
-
 abbrev pub sum : List ℕ → ℕ
 sum [] = 0
 sum (n ∷ ns) = n + sum ns
@@ -37,10 +33,6 @@ numbers (suc n) = numbers n ++ n ∷ []
 abbrev pub each : {A : Type 0} → (ℕ → List A) → (p n : ℕ) → List A
 each f p zero = []
 each f p (suc n) = f p ++ each f (suc p) n
-
--- f at each of n numbers from p on
-abbrev pub upto : {A : Type 0} → (ℕ → A) → (p n : ℕ) → List A
-upto f p n = each (λ q. f q ∷ []) p n
 
 -- all rows of places below these sizes, ascending, the first compared first
 abbrev pub rowsBelow : List ℕ → List (List ℕ)
@@ -71,11 +63,6 @@ same [] (y ∷ ys) = false
 same (x ∷ xs) [] = false
 same (x ∷ xs) (y ∷ ys) = eqb x y && same xs ys
 
--- a test's result t says whether P holds
-pub record Tells (P : Type 0) (t : Bool) : Type 0 where
-  pub if-true : t ≡ true → P
-  pub if-false : t ≡ false → P → ⊥
-
 -- ---- what may be there
 module _ {A : Type 0} where
   -- there is one
@@ -87,3 +74,17 @@ module _ {A : Type 0} where
   abbrev pub listIn : Option (List A) → List A
   listIn none = []
   listIn (some l) = l
+
+-- ---- what no public call's contract cites
+-- each number is below n
+abbrev pub Below : ℕ → List ℕ → Type 0
+Below n l = All (λ k. k < n) l
+
+-- f at each of n numbers from p on
+abbrev pub upto : {A : Type 0} → (ℕ → A) → (p n : ℕ) → List A
+upto f p n = each (λ q. f q ∷ []) p n
+
+-- a test's result t says whether P holds
+pub record Tells (P : Type 0) (t : Bool) : Type 0 where
+  pub if-true : t ≡ true → P
+  pub if-false : t ≡ false → P → ⊥

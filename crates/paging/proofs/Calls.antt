@@ -1,9 +1,8 @@
 -- One page call on an overlay: what it answers and leaves in its table, as the search's page.
-use mathlib.Core.Path.{_≡_, refl, ap}
+use mathlib.Core.Path.{_≡_, refl}
 use mathlib.Core.List.{List, map}
 use mathlib.Core.Option.{Option, none, some}
 use mathlib.Core.Bool.{Bool, _&&_}
-use mathlib.Core.Logic.{_↔_}
 use Prim.Native.Nat.{ℕ, zero, suc}
 use native.Mathlib.Omega.{arith}
 use lib.Dec.{eqb, ltb}
@@ -13,34 +12,18 @@ use Rattle.lists.specs.Lists.{All, none-left, sum, listIn}
 use Rattle.totals.specs.Totals.{totalOf, valueOf}
 use Rattle.totals.proofs.Totals.{value-total}
 use Rattle.search.specs.Traversal.{Probe, Row, rowOf}
-use Rattle.search.specs.Paging.{Halt, Paged, page}
-use Rattle.search.specs.Paging as Paging
-use Rattle.search.specs.Calls.{accepts, doneIn}
-use Rattle.search.specs.Calls as Search
+use Rattle.search.specs.Paging.{Paged, page}
+use Rattle.search.proofs.Chains.{accepts, doneIn}
+use Rattle.search.proofs.Chains as Search
 use Rattle.search.proofs.Paging.{page-all}
 use Rattle.walk.specs.Walk.{placesOf}
 use Rattle.paging.specs.Overlays.{Overlay}
 use Rattle.paging.specs.Cursors.{dueCursor, resume}
-use Rattle.paging.specs.Pages.{fill, stopOf, room, paged, placed, pageOf}
+use Rattle.paging.specs.Pages.{fill, room, paged, pageOf}
 use Rattle.paging.specs.Theorems.{Served, rowsIn}
-use Rattle.paging.proofs.Overlays.{Lawful, walk-long}
+use Rattle.paging.proofs.Overlays.{placed, Lawful, walk-long}
 use Rattle.paging.proofs.Resume.{resume-is}
 use Rattle.paging.proofs.Tables.{places-filled}
-
--- a call tells a stop where its page does
-pub stop-is : (h j : Halt) → (stopOf h ≡ stopOf j) ↔ (h ≡ j)
-stop-is h j = (go h j, ap stopOf)
-  where
-    go : (h j : Halt) → stopOf h ≡ stopOf j → h ≡ j
-    go Paging.Ended Paging.Ended e = refl
-    go Paging.Ended Paging.Full e = cc
-    go Paging.Ended Paging.Spent e = cc
-    go Paging.Full Paging.Ended e = cc
-    go Paging.Full Paging.Full e = refl
-    go Paging.Full Paging.Spent e = cc
-    go Paging.Spent Paging.Ended e = cc
-    go Paging.Spent Paging.Full e = cc
-    go Paging.Spent Paging.Spent e = refl
 
 -- the page, where no cause refuses it
 abbrev pub pageIf : {S : Type 0} → ℕ → Paged (Probe S) (Row S) → Option (Paged (Probe S) (Row S))
@@ -76,7 +59,7 @@ module _ {S : Type 0} (o : Overlay S) where
     pub rows : rowsFrom x ≡ placed o (Search.rowsIn (answered x))
     pub area : valueOf (x .answer .area) ≡ sum (map (o .area) (rowsFrom x))
     pub allowed : (eqb (x .cause) 0 && allows x) ≡ (accepts (answered x) && allows x)
-    pub stop : x .cause ≡ 0 → x .answer .stop ≡ stopOf (pageOn x .halt)
+    pub stop : x .cause ≡ 0 → x .answer .stop ≡ pageOn x .stop
     pub cursor : x .cause ≡ 0 → x .answer .cursor ≡ dueCursor (o .sizes) (pageOn x .rest)
 
   -- ---- refused

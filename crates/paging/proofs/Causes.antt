@@ -1,12 +1,13 @@
 -- Each cause of the calls applies in exactly the stated case.
 use mathlib.Core.Path.{_≡_, refl}
+use mathlib.Core.Logic.{⊎-elim}
 use mathlib.Core.List.{List}
 use Prim.Native.Nat.{ℕ, zero, suc, _≤_}
 use native.Mathlib.Omega.{arith}
 use lib.IntN.{ℤ}
 use lib.Dec.{leb}
 use lib.ListN.{length}
-use Rattle.lists.specs.Lists.{Tells, isSome}
+use Rattle.lists.specs.Lists.{Tells, isSome, listIn}
 use Rattle.lists.proofs.Tests.{le-tells}
 use Rattle.totals.specs.declared.Total.{Total}
 use Rattle.plan.specs.declared.Shape.{Shape}
@@ -16,16 +17,17 @@ use Rattle.plan.proofs.Plan.{or-else-most, unless-most, check-passed, check-fai
 use Rattle.sweep.specs.Sweep.{orderCause}
 use Rattle.sweep.proofs.Theorems.{sweep-holding}
 use Rattle.geometry.specs.declared.Rect.{Rect}
-use Rattle.search.specs.Traversal.{Probe, Row}
-use Rattle.search.specs.Paging.{Halt, Ended, Full, Spent, Paged}
+use Rattle.search.specs.Traversal.{Probe, Row, rowOf}
+use Rattle.search.specs.Paging.{Paged}
+use Rattle.search.proofs.Paging.{page-stops}
 use Rattle.paging.specs.declared.Cursor.{Cursor}
 use Rattle.paging.specs.declared.Fresh.{Fresh}
 use Rattle.paging.specs.declared.Page.{Page}
 use Rattle.paging.specs.declared.Run.{Run}
 use Rattle.paging.specs.declared.Run.the-variants as Run
-use Rattle.paging.specs.Overlays.{overlay}
+use Rattle.paging.specs.Overlays.{Overlay, overlay}
 use Rattle.paging.specs.Cursors.{endedCursor, resume}
-use Rattle.paging.specs.Pages.{stopOf, room, paged, pageOf}
+use Rattle.paging.specs.Pages.{room, paged, pageOf}
 use Rattle.paging.specs.Calls.{freshCall, pageCause, stopNumber, refusedPage, pageCall, pageTable, runCause, runCall, runTable, runValues}
 use Rattle.paging.specs.Theorems.{Good, CallCauses, Call, served, Refuses}
 use Rattle.paging.proofs.Named.{resumes}
@@ -64,16 +66,14 @@ call-causes s cells order c table typed = record {
 
 -- ---- refusals
 -- a page that was made is accepted
-pub stop-none : (h : Halt) → stopNumber (stopOf h) ≡ 0
-stop-none Ended = refl
-stop-none Full = refl
-stop-none Spent = refl
+pub stop-none : (o : Overlay Rect) (c : Cursor) (budget : ℕ) (table : List ℕ) → stopNumber (paged o c budget table .stop) ≡ 0
+stop-none o c budget table = ⊎-elim (λ e. rw e) (⊎-elim (λ e. rw e) (λ e. rw e)) (page-stops rowOf budget (room o table) (listIn (resume o c)))
 
 pub refuses : (x : Call) → Refuses x
 unfolding freshCall pageCall pageTable runCall runTable
 refuses x = record {
   fresh-number = fresh-told (orderCause (x .shape) (x .cells) (x .order)) _;
-  page-number = page-told (served x .cause) (paged (overlay (x .shape) (x .cells)) (x .cursor) (x .budget) (x .table));
+  page-number = page-told (served x .cause) (paged (overlay (x .shape) (x .cells)) (x .cursor) (x .budget) (x .table)) (stop-none (overlay (x .shape) (x .cells)) (x .cursor) (x .budget) (x .table));
   run-number = run-told (runCause (x .shape) (x .cells) (x .order) (x .table)) _ _ _;
   fresh = λ n e. rw e;
   page = λ n e. (rw e, rw e);
@@ -84,9 +84,9 @@ refuses x = record {
     fresh-told zero c = refl
     fresh-told (suc n) c = refl
 
-    page-told : (n : ℕ) (p : Paged (Probe Rect) (Row Rect)) → stopNumber (onCause {A = Page} n (pageOf (overlay (x .shape) (x .cells)) p) (refusedPage (x .cursor)) .stop) ≡ n
-    page-told zero p = stop-none (p .halt)
-    page-told (suc n) p = refl
+    page-told : (n : ℕ) (p : Paged (Probe Rect) (Row Rect)) → stopNumber (p .stop) ≡ 0 → stopNumber (onCause {A = Page} n (pageOf (overlay (x .shape) (x .cells)) p) (refusedPage (x .cursor)) .stop) ≡ n
+    page-told zero p h = h
+    page-told (suc n) p h = refl
 
     run-told : (n rows probes : ℕ) (area : Total) → _≡_ {A = ℕ} (runValues (onCause {A = Run} n (Run.Done rows probes area) (λ m. Run.Refused m)) .number) n
     run-told zero rows probes area = refl

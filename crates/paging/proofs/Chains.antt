@@ -11,15 +11,15 @@ use Rattle.lists.proofs.Numbers.{sum-++}
 use Rattle.totals.specs.Totals.{valueOf}
 use Rattle.search.specs.Traversal.{Probe, Row, rowOf}
 use Rattle.search.specs.Paging.{Paged, page}
-use Rattle.search.specs.Calls.{Delivered}
-use Rattle.search.specs.Calls as Search
+use Rattle.search.proofs.Chains.{Delivered}
+use Rattle.search.proofs.Chains as Search
 use Rattle.search.proofs.Calls.{delivered}
 use Rattle.paging.specs.declared.Cursor.{Cursor}
 use Rattle.paging.specs.Overlays.{Overlay}
 use Rattle.paging.specs.Cursors.{dueCursor, resume}
-use Rattle.paging.specs.Pages.{room, placed}
+use Rattle.paging.specs.Pages.{room}
 use Rattle.paging.specs.Theorems.{Served, handed, reported, allowing}
-use Rattle.paging.proofs.Overlays.{Lawful}
+use Rattle.paging.proofs.Overlays.{placed, Lawful}
 use Rattle.paging.proofs.Resume.{resume-due}
 use Rattle.paging.proofs.Calls.{pageIf, pageOn, answered, Serves, Agrees, answered-none, answered-some, agrees}
 

@@ -6,7 +6,7 @@ use mathlib.Core.Logic.{_⊎_, inl, inr}
 use Prim.Native.Nat.{ℕ, zero, suc}
 use native.Mathlib.Omega.{arith}
 use Rattle.lists.specs.Lists.{All, none-left, _and_}
-use Rattle.search.specs.Calls.{lastOf}
+use Rattle.search.proofs.Chains.{lastOf}
 use Rattle.paging.specs.Overlays.{Overlay}
 use Rattle.paging.specs.Theorems.{Served, Last}
 use Rattle.paging.proofs.Calls.{pageOn, answered, answered-none, answered-some}

@@ -15,17 +15,15 @@ use Rattle.lists.proofs.Lists.{all-at, all-of-mem, all-parts}
 use Rattle.lists.proofs.Kept.{map-++}
 use Rattle.search.specs.Traversal.{rowOf}
 use Rattle.search.specs.Paging.{rowsOf}
-use Rattle.search.specs.Paging as Paging
-use Rattle.search.specs.Calls.{lastOf}
+use Rattle.search.proofs.Chains.{lastOf}
 use Rattle.search.proofs.Paging.{rowsOf-++}
 use Rattle.walk.specs.Walk.{placesOf}
-use Rattle.paging.specs.declared.Stop.the-variants.{Ended}
+use Rattle.search.specs.declared.Stop.the-variants.{Ended}
 use Rattle.paging.specs.Overlays.{Overlay}
 use Rattle.paging.specs.Cursors.{dueCursor}
-use Rattle.paging.specs.Pages.{placed}
 use Rattle.paging.specs.Theorems.{Served, handed, reported, allowing, Last, PagingHolds}
-use Rattle.paging.proofs.Overlays.{Lawful}
-use Rattle.paging.proofs.Calls.{pageOn, answered, Serves, Agrees, stop-is, answered-some}
+use Rattle.paging.proofs.Overlays.{placed, Lawful}
+use Rattle.paging.proofs.Calls.{pageOn, answered, Serves, Agrees, answered-some}
 use Rattle.paging.proofs.Lasts.{Declined, last-or-none, last-none, last-is}
 use Rattle.paging.proofs.Chains.{Linked, Delivers, reported-same, allowing-same, handed-same, areas-same, linked-agrees, linked-delivered}
 
@@ -51,23 +49,22 @@ module _ {S : Type 0} (o : Overlay S) where
     -- an accepted call tells Ended exactly where it reaches the walk's length
     call-ended : (ys : List Served) (x : Served) (zs : List Served) → xs ≡ ys ++ x ∷ zs → x .cause ≡ 0 → (x .answer .stop ≡ Ended) ↔ (reported (ys ++ x ∷ []) ≡ length (o .walk))
     call-ended ys x zs e c =
-        let i = stop-is (pageOn o x .halt) Paging.Ended in
         let j = d .ended ys x zs (pageOn o x) e (answered-some o x c) in
         let a : All (Agrees o) ((ys ++ x ∷ []) ++ zs) = rw append-assoc (rw e at all) in
         let k = reported-same o (all-parts (ys ++ x ∷ []) a .0) in
         let s = at ys x zs e .stop c in
-        (λ h. k ∙ j .0 (i .0 (sym s ∙ h)), λ h. s ∙ i .1 (j .1 (sym k ∙ h)))
+        (λ h. k ∙ j .0 (sym s ∙ h), λ h. s ∙ j .1 (sym k ∙ h))
 
     -- the last accepted call tells Ended where more calls allow a probe than the walk has
     last-ended : length (o .walk) < allowing o xs → (x : Served) × Last xs x × (x .answer .stop ≡ Ended)
     last-ended h = go (last-or-none xs) (d .bound (rw (← allowing-same o all) h))
       where
-        go : All Declined xs ⊎ ((x : Served) × Last xs x) → Option·map (λ p. p .halt) (lastOf (answered o) xs) ≡ some Paging.Ended → (x : Served) × Last xs x × (x .answer .stop ≡ Ended)
-        go (inl n) e = let z : none ≡ some Paging.Ended = rw (last-none o n) at e in let y : _≡_ {A = ℕ} 0 1 = cc in absurd (omega arith)
+        go : All Declined xs ⊎ ((x : Served) × Last xs x) → Option·map (λ p. p .stop) (lastOf (answered o) xs) ≡ some Ended → (x : Served) × Last xs x × (x .answer .stop ≡ Ended)
+        go (inl n) e = let z : none ≡ some Ended = rw (last-none o n) at e in let y : _≡_ {A = ℕ} 0 1 = cc in absurd (omega arith)
         go (inr y) e =
             let l = y .1 in
-            let z : some (pageOn o (y .0) .halt) ≡ some Paging.Ended = rw (last-is o xs (y .0) l) at e in
-            (y .0, l, at (l .before) (y .0) (l .behind) (l .is) .stop (l .accepted) ∙ stop-is (pageOn o (y .0) .halt) Paging.Ended .1 cc)
+            let z : some (pageOn o (y .0) .stop) ≡ some Ended = rw (last-is o xs (y .0) l) at e in
+            (y .0, l, at (l .before) (y .0) (l .behind) (l .is) .stop (l .accepted) ∙ cc)
 
     -- its cursor is the one that is due then
     last-cursor : (x : Served) → Last xs x → x .answer .cursor ≡ dueCursor (o .sizes) (drop (reported xs) (o .walk))

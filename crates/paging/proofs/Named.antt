@@ -28,12 +28,11 @@ use Rattle.walk.proofs.Slots.{slots-long}
 use Rattle.walk.proofs.Theorems.{walk-is-table}
 use Rattle.paging.specs.declared.Cursor.{Cursor}
 use Rattle.paging.specs.Cursors.{cursorOf, sameCursor, findIn, resume}
-use Rattle.paging.specs.Overlays.{overlayOf}
 use Rattle.paging.specs.Theorems.{NamesProbe, Good}
 use Rattle.search.proofs.Stands.{named-short}
 use Rattle.paging.proofs.Cursors.{pathIn, same-cursor-refl, never-ended, cursor-path}
 use Rattle.lists.proofs.Padding.{padded-long, padded-zeros, padded-front}
-use Rattle.paging.proofs.Overlays.{lawful}
+use Rattle.paging.proofs.Overlays.{overlayOf, lawful}
 use Rattle.paging.proofs.Resume.{Left, walk-deep, resume-is, resume-ended}
 
 -- the cursor of a probe of the list finds something there
@@ -64,7 +63,7 @@ module _ (ns : List ℕ) (cells : List ℤ) (frame : Framed ns cells) where
       e = omega arith
 
       h : (t .guard < count cells) × (let g = guardAt (layersOf ns cells) (t .guard) (spotOf ns (t .guard)) in Named (g .slots) (g .start) (t .path))
-      h = walk-is-table ns cells frame .probes (t .guard) (t .path) .0 (t, m, refl, refl)
+      h = walk-is-table ns cells frame .is .probes (t .guard) (t .path) .0 (t, m, refl, refl)
 
   -- a cursor that names a probe leaves a slot for the place to try
   pub names-slots : (c : Cursor) → NamesProbe ns cells c → c .filled + 2 ≤ length ns
@@ -117,7 +116,7 @@ module _ (ns : List ℕ) (cells : List ℤ) (frame : Framed ns cells) where
   names-cursor : (c : Cursor) → NamesProbe ns cells c → (t : Probe Rect) × List·Memᴰ t (walkOf ns cells) × (cursorOf ns t ≡ c)
   names-cursor c p =
       let y = Memᴰ·of-map (spotOf ns) (sweepOrder cells) (sweeps ns cells (frame .whole) .complete (record { layer = c .layer - 1; place = c .place }) (p .guard)) in
-      let i = walk-is-table ns cells frame .probes (y .0) (pathIn c) .1 (all-at (sweep-is cells .below) (y .1), rw (y .2) (p .path)) in
+      let i = walk-is-table ns cells frame .is .probes (y .0) (pathIn c) .1 (all-at (sweep-is cells .below) (y .1), rw (y .2) (p .path)) in
       (i .0, i .1, names-same c p (i .0) (rw (i .2) (y .2)) (i .3))
 
   -- a cursor that names a probe resumes something

@@ -1,29 +1,23 @@
 -- What one accepted page call did.
-use mathlib.Core.Path.{_≡_, sym, ap, _∙_, refl}
+use mathlib.Core.Path.{_≡_, ap, _∙_}
 use mathlib.Core.List.{List}
 use mathlib.Core.Option.{some}
-use mathlib.Core.Logic.{Iff·trans, _⊎_, inl, inr}
 use Prim.Native.Nat.{ℕ}
 use lib.ListN.{length, length-map}
 use Rattle.lists.specs.Lists.{All}
 use Rattle.lists.proofs.Lists.{all-of-map}
+use Rattle.totals.proofs.Totals.{value-total}
 use Rattle.search.specs.Traversal.{Probe, Row, rowOf}
-use Rattle.search.specs.Paging.{Paged, page, Ended, Full, Spent, Halt}
-use Rattle.search.proofs.Paging.{page-rows, page-room, page-ended, page-going, page-rest, page-full, page-spent}
+use Rattle.search.specs.Paging.{Paged, page}
+use Rattle.search.proofs.Paging.{page-rows, page-room, page-ended, page-going, page-rest, page-stops, page-full, page-spent}
 use Rattle.walk.specs.Walk.{placesOf}
 use Rattle.paging.specs.Overlays.{Overlay}
 use Rattle.paging.specs.Cursors.{resume, dueCursor}
-use Rattle.paging.specs.Pages.{fill, stopOf, room, placed, areaSum, pageOf}
+use Rattle.paging.specs.Pages.{fill, room, pageOf}
 use Rattle.paging.specs.Theorems.{Served, rowsIn, PageHolds}
-use Rattle.paging.proofs.Overlays.{Lawful}
+use Rattle.paging.proofs.Overlays.{placed, Lawful}
 use Rattle.paging.proofs.Tables.{places-filled, fill-long, fill-kept}
-use Rattle.paging.proofs.Calls.{stop-is, Serves, page-long}
-
--- a page stops in one of three ways
-one-of : (h : Halt) → (stopOf h ≡ stopOf Ended) ⊎ ((stopOf h ≡ stopOf Full) ⊎ (stopOf h ≡ stopOf Spent))
-one-of Ended = inl refl
-one-of Full = inr (inl refl)
-one-of Spent = inr (inr refl)
+use Rattle.paging.proofs.Calls.{Serves, page-long}
 
 module _ {S : Type 0} (o : Overlay S) (l : Lawful o) (x : Served) (v : Serves o x) (w : List (Probe S)) (e : x .cause ≡ 0) (r : resume o (x .cursor) ≡ some w) where
   -- the page over what is left
@@ -46,12 +40,12 @@ module _ {S : Type 0} (o : Overlay S) (l : Lawful o) (x : Served) (v : Serves o 
   pub page-holds : PageHolds o x w
   page-holds = record {
     rows = rw (its-answer, its-table) (filled ∙ ap (placed o) (page-rows rowOf b m w));
-    ended = rw its-answer (Iff·trans (stop-is (its .halt) Ended) (page-ended rowOf b m w));
-    full = rw its-answer (Iff·trans (stop-is (its .halt) Full) (page-full rowOf b m w));
-    spent = rw its-answer (Iff·trans (stop-is (its .halt) Spent) (page-spent rowOf b m w));
-    stops = rw its-answer (one-of (its .halt));
+    ended = rw its-answer (page-ended rowOf b m w);
+    full = rw its-answer (page-full rowOf b m w);
+    spent = rw its-answer (page-spent rowOf b m w);
+    stops = rw its-answer (page-stops rowOf b m w);
     going = rw its-answer (page-going rowOf b m w);
-    area = rw (its-answer, its-table) (ap (areaSum o) (sym filled));
+    area = rw (its-answer, its-table, filled) (value-total _);
     cursor = rw its-answer (ap (dueCursor (o .sizes)) (page-rest rowOf b m w));
     long = rw its-table (fill-long (length (o .sizes)) (x .table) long (rw length-map (page-room rowOf b m w)));
     kept = rw (its-answer, its-table) (rw length-map at (fill-kept (length (o .sizes)) (x .table) long));

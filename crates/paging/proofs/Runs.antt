@@ -13,6 +13,7 @@ use Rattle.plan.specs.Plan.{sizesOf, Sound}
 use Rattle.plan.proofs.Plan.{unless-zero, framed}
 use Rattle.plan.proofs.Theorems.{plans}
 use Rattle.sweep.specs.Sweep.{orderCause}
+use Rattle.totals.proofs.Totals.{value-total}
 use Rattle.paging.specs.Overlays.{overlay}
 use Rattle.paging.specs.Pages.{room}
 use Rattle.paging.specs.Calls.{runCause, runCall, runTable, runValues}
@@ -40,7 +41,7 @@ module _ (s : Shape) (cells : List ℤ) (order table : List ℕ) (sound : Sound 
   run-holds = record {
     succeeds = rw run-cause (λ e. leb-true n m (unless-zero (leb n m) 6 e), λ h. rw (le-leb n m h));
     rows = λ e. of-k (λ k. rowsIn k (runValues (runCall s cells order table) .rows) (runTable s cells order table) ≡ overlay s cells .table) (rw e (rows-filled (length (sizesOf s)) table rows-long));
-    counts = λ e. rw e;
+    counts = λ e. (rw e, rw e, rw e, rw e (value-total _));
     long = go (runCause s cells order table) refl;
     kept = λ e. of-k (λ k. drop (k * n) (runTable s cells order table) ≡ drop (k * n) table) (rw e (fill-kept (length (sizesOf s)) table rows-long));
     fails = λ h. let e : runCause s cells order table ≡ 7 = rw (run-cause, lt-leb n m h) in (rw e, rw e);

@@ -158,6 +158,7 @@ pub demand3 : Demand3
 demand3 = record {
   table = λ s cells h. tables .tables (sizesOf s) cells (framed s cells h .1);
   walk = λ s cells h. walk-is-table (sizesOf s) cells (framed s cells h .1);
+  both = λ s cells. refl;
   causes = call-causes;
   refused = refuses;
   cap = λ s cells table. refl;

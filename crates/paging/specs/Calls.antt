@@ -1,5 +1,5 @@
 -- What the fresh-cursor call, the page call and the whole run answer (01, "The walk" and "Causes and their numbers").
-use mathlib.Core.List.{List}
+use mathlib.Core.List.{List, map}
 use Prim.Native.Nat.{ℕ}
 use lib.IntN.{ℤ}
 use lib.Dec.{leb}
@@ -9,16 +9,17 @@ use Rattle.totals.specs.Totals.{totalOf}
 use Rattle.plan.specs.declared.Shape.{Shape}
 use Rattle.plan.specs.Causes.{unless, _orElse_, onCause}
 use Rattle.sweep.specs.Sweep.{orderCause}
+use Rattle.walk.specs.Walk.{placesOf}
 use Rattle.paging.specs.declared.Cursor.{Cursor}
 use Rattle.paging.specs.declared.Fresh.{Fresh}
 use Rattle.paging.specs.declared.Page.{Page}
-use Rattle.paging.specs.declared.Stop.{Stop}
-use Rattle.paging.specs.declared.Stop.the-variants.{Ended, Full, Spent, Refused}
+use Rattle.search.specs.declared.Stop.{Stop}
+use Rattle.search.specs.declared.Stop.the-variants.{Ended, Full, Spent, Refused}
 use Rattle.paging.specs.declared.Run.{Run}
 use Rattle.paging.specs.declared.Run.the-variants as Run
 use Rattle.paging.specs.Overlays.{overlay}
 use Rattle.paging.specs.Cursors.{endedCursor, dueCursor, resume}
-use Rattle.paging.specs.Pages.{fill, room, paged, placed, areaSum, pageOf}
+use Rattle.paging.specs.Pages.{fill, room, paged, areaSum, pageOf}
 use Rattle.lists.specs.Lists.{isSome}
 
 -- ---- the fresh-cursor call; its checks are 1 to 5
@@ -50,7 +51,7 @@ pageCall s cells order c budget table =
 -- the table afterwards: filled with the page's rows, or after a refusal what it was
 unfoldable pub pageTable : Shape → List ℤ → List ℕ → Cursor → ℕ → List ℕ → List ℕ
 pageTable s cells order c budget table =
-    let o = overlay s cells in onCause (pageCause s cells order c) (fill (placed o (paged o c budget table .rows)) table) (λ n. table)
+    let o = overlay s cells in onCause (pageCause s cells order c) (fill (map (placesOf (o .sizes)) (paged o c budget table .rows)) table) (λ n. table)
 
 -- ---- the whole run
 -- its checks: 1 to 5, and 7 where "J has more rows than the table takes"

@@ -15,18 +15,20 @@ use Rattle.plan.specs.declared.Shape.{Shape}
 use Rattle.plan.specs.Plan.{layersOf, sizesOf, Typed, Sound}
 use Rattle.plan.specs.Spots.{Has, spotOf}
 use Rattle.sweep.specs.Sweep.{sweepOrder, orderCause}
+use Rattle.join.specs.Join.{areaIn}
+use Rattle.join.specs.Table.{tableOf}
 use Rattle.join.specs.Theorems.{TableHolds}
 use Rattle.search.specs.Traversal.{Probe, rowOf}
 use Rattle.search.specs.Paging.{rowsOf}
 use Rattle.search.specs.Names.{Named}
-use Rattle.walk.specs.Walk.{guardAt}
+use Rattle.walk.specs.Walk.{guardAt, walkOf, placesOf}
 use Rattle.walk.specs.Theorems.{WalkIsTable}
 use Rattle.paging.specs.declared.Cursor.{Cursor}
 use Rattle.paging.specs.declared.Page.{Page}
-use Rattle.paging.specs.declared.Stop.the-variants.{Ended, Full, Spent, Refused}
+use Rattle.search.specs.declared.Stop.the-variants.{Ended, Full, Spent, Refused}
 use Rattle.paging.specs.Overlays.{Overlay, overlay}
 use Rattle.paging.specs.Cursors.{cursorOf, endedCursor, dueCursor, resume}
-use Rattle.paging.specs.Pages.{room, placed, areaSum}
+use Rattle.paging.specs.Pages.{room}
 use Rattle.paging.specs.Calls.{freshCall, stopNumber, pageCause, pageCall, pageTable, runCause, runCall, runTable, runValues}
 
 -- ---- page calls
@@ -152,15 +154,15 @@ pub record Refuses (x : Call) : Type 0 where
 -- ---- one accepted page call on an overlay; w is what is left of the walk at its cursor
 pub record PageHolds {S : Type 0} (o : Overlay S) (x : Served) (w : List (Probe S)) : Type 0 where
   -- it does the first probes that are left, and puts out the rows that they yield
-  pub rows : rowsIn (length (o .sizes)) (x .answer .rows) (x .after) ≡ placed o (rowsOf rowOf (take (x .answer .probes) w))
+  pub rows : rowsIn (length (o .sizes)) (x .answer .rows) (x .after) ≡ map (placesOf (o .sizes)) (rowsOf rowOf (take (x .answer .probes) w))
   -- 01: "Before each trial it asks in this order: walk over, stop with Ended; table full, stop with Full; trials done equal the budget, stop with Spent."
   pub ended : (x .answer .stop ≡ Ended) ↔ (x .answer .probes ≡ length w)
   pub full : (x .answer .stop ≡ Full) ↔ ((x .answer .probes < length w) × (x .answer .rows ≡ room o (x .table)))
   pub spent : (x .answer .stop ≡ Spent) ↔ ((x .answer .probes < length w) × (x .answer .rows < room o (x .table)) × (x .answer .probes ≡ x .budget))
   pub stops : (x .answer .stop ≡ Ended) ⊎ ((x .answer .stop ≡ Full) ⊎ (x .answer .stop ≡ Spent))
   pub going : (d : ℕ) → d < x .answer .probes → (length (rowsOf rowOf (take d w)) < room o (x .table)) × (d < x .budget)
-  -- the sum of its rows' areas, and the cursor for what is due next
-  pub area : x .answer .area ≡ areaSum o (rowsIn (length (o .sizes)) (x .answer .rows) (x .after))
+  -- the sum of its rows' areas in square millimetres, and the cursor for what is due next
+  pub area : valueOf (x .answer .area) ≡ sum (map (o .area) (rowsIn (length (o .sizes)) (x .answer .rows) (x .after)))
   pub cursor : x .answer .cursor ≡ dueCursor (o .sizes) (drop (x .answer .probes) w)
   -- 01: "Rows fill it from its first cell; the rest keeps its contents."
   pub long : length (x .after) ≡ length (x .table)
@@ -171,7 +173,7 @@ pub record PagingHolds {S : Type 0} (o : Overlay S) (xs : List Served) : Type 0 
   -- "the rows handed out are the first rows of that table, in its order:
   pub first : handed (length (o .sizes)) xs ≡ take (length (handed (length (o .sizes)) xs)) (o .table)
   -- exactly those that the walk yields in its first trials, as many as the calls reported in all,
-  pub yielded : handed (length (o .sizes)) xs ≡ placed o (rowsOf rowOf (take (reported xs) (o .walk)))
+  pub yielded : handed (length (o .sizes)) xs ≡ map (placesOf (o .sizes)) (rowsOf rowOf (take (reported xs) (o .walk)))
   -- which is never more than the walk's length."
   pub within : reported xs ≤ length (o .walk)
   -- "No call reports more trials than its budget."
@@ -190,8 +192,8 @@ pub record PagingHolds {S : Type 0} (o : Overlay S) (xs : List Served) : Type 0 
 pub record RunHolds (s : Shape) (cells : List ℤ) (order table : List ℕ) : Type 0 where
   pub succeeds : let o = overlay s cells in (runCause s cells order table ≡ 0) ↔ (length (o .table) ≤ room o table)
   pub rows : runCause s cells order table ≡ 0 → rowsIn (s .k) (runValues (runCall s cells order table) .rows) (runTable s cells order table) ≡ overlay s cells .table
-  pub counts : let o = overlay s cells in runCause s cells order table ≡ 0
-      → runValues (runCall s cells order table) ≡ record { number = 0; rows = length (o .table); probes = length (o .walk); area = areaSum o (o .table) }
+  pub counts : let o = overlay s cells in let v = runValues (runCall s cells order table) in runCause s cells order table ≡ 0
+      → (v .number ≡ 0) × (v .rows ≡ length (o .table)) × (v .probes ≡ length (o .walk)) × (valueOf (v .area) ≡ sum (map (o .area) (o .table)))
   -- the rest of the table is kept; where the table does not fit, all of it
   pub long : length (runTable s cells order table) ≡ length table
   pub kept : let n = s .k * length (overlay s cells .table) in runCause s cells order table ≡ 0 → drop n (runTable s cells order table) ≡ drop n table
@@ -201,6 +203,8 @@ pub record Demand3 : Type 0 where
   -- "A plan has one table and one walk, and the rows of the walk are that table, in its order."
   pub table : (s : Shape) (cells : List ℤ) → Sound s cells → TableHolds (sizesOf s) cells
   pub walk : (s : Shape) (cells : List ℤ) → Sound s cells → WalkIsTable (sizesOf s) cells
+  -- its overlay is made of these, of the sizes of its layers, and of the areas of rows
+  pub both : (s : Shape) (cells : List ℤ) → let ns = sizesOf s in overlay s cells ≡ record { sizes = ns; walk = walkOf ns cells; table = tableOf ns cells; area = areaIn (layersOf ns cells) }
   -- the causes of the calls
   pub causes : (s : Shape) (cells : List ℤ) (order : List ℕ) (c : Cursor) (table : List ℕ) → Typed s → CallCauses s cells order c table
   -- what a refused call returns and leaves

@@ -1,6 +1,7 @@
 // Cursors, pages and whole runs: the types of the calls' answers. What the calls answer is defined in specs/, what demand 3 says of
 // lists of calls is proved in proofs/; the code of the calls is in the crate `pager`.
 
+use search::Stop;
 use totals::Total;
 
 // Names the probe due next (01: a ticket): the guard's layer, from 1, and place, how many slots are filled, the chosen places, first
@@ -18,14 +19,6 @@ pub struct Cursor {
 pub struct Fresh {
     pub number: u32,
     pub cursor: Cursor,
-}
-
-// Why a page stopped.
-pub enum Stop {
-    Ended,
-    Full,
-    Spent,
-    Refused(u32),
 }
 
 // What the page call answers: why it stopped, how many rows it put into the table, how many probes it did, the sum of its rows'

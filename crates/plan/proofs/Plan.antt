@@ -20,7 +20,7 @@ use Rattle.plan.specs.Limits.{mostRects}
 use Rattle.plan.specs.declared.Shape.{Shape}
 use Rattle.plan.specs.Causes.{unless, _orElse_}
 use Rattle.plan.specs.Frames.{Framed}
-use Rattle.plan.specs.Plan.{rectAt, count, sizesOf, sizeFits, sizesFit, allRanged, shapeCause, planCause, Sound}
+use Rattle.plan.specs.Plan.{rectAt, count, sizesOf, sizeFits, sizesFit, allRanged, planCause, Sound}
 use native.Mathlib.Nat.{le-refl}
 
 -- ---- two checks
@@ -138,19 +138,19 @@ pub ranged-end : (cells : List ℤ) (i n : ℕ) → allRanged i cells ≡ true �
 ranged-end cells i n e h k = let q : i ≡ n = omega arith in sym (subst (λ (m : ℕ). allRanged m cells ≡ true) q e)
 
 -- ---- the causes
--- of a shape
+-- of a shape: the first of 1 and 2
+abbrev pub shapeCause : Shape → ℕ
+shapeCause s = unless (leb 2 (s .k) && leb (s .k) 6) 1 orElse unless (sizesFit (s .k) 0 (s .sizes)) 2
+
 module _ (s : Shape) where
   pub shape-low : s .k < 2 → 1 ≡ shapeCause s
-  unfolding shapeCause
   shape-low h = rw (lt-leb 2 (s .k) h)
 
   module _ (low : 2 ≤ s .k) where
     pub shape-high : 6 < s .k → 1 ≡ shapeCause s
-    unfolding shapeCause
     shape-high h = rw (le-leb 2 (s .k) low, lt-leb (s .k) 6 h)
 
     pub shape-sizes : s .k ≤ 6 → (t : Bool) → t ≡ sizesFit (s .k) 0 (s .sizes) → unless t 2 ≡ shapeCause s
-    unfolding shapeCause
     shape-sizes high t e = rw (le-leb 2 (s .k) low, le-leb (s .k) 6 high, e)
 
 -- of a plan
@@ -194,7 +194,7 @@ pub record Checked (s : Shape) (cells : List ℤ) : Type 0 where
   pub ranged : (k : ℕ) → k < count cells → inRange (rectAt cells k) ≡ true
 
 pub checked : (s : Shape) (cells : List ℤ) → Sound s cells → Checked s cells
-unfolding planCause shapeCause
+unfolding planCause
 checked s cells h = go (leb 2 (s .k) && leb (s .k) 6) refl (sizesFit (s .k) 0 (s .sizes)) refl (eqb (length cells) (4 * sum (s .sizes))) refl (allRanged (count cells) cells) refl (h .passed)
   where
     go : (a : Bool) → (leb 2 (s .k) && leb (s .k) 6) ≡ a → (f : Bool) → sizesFit (s .k) 0 (s .sizes) ≡ f → (w : Bool) → eqb (length cells) (4 * sum (s .sizes)) ≡ w → (r : Bool) → allRanged (count cells) cells ≡ r
@@ -249,7 +249,7 @@ framed s cells h =
 
 -- a plan is refused by 1 to 4
 pub plan-most : (s : Shape) (cells : List ℤ) → planCause s cells ≤ 4
-unfolding planCause shapeCause
+unfolding planCause
 plan-most s cells = go (leb 2 (s .k) && leb (s .k) 6) (sizesFit (s .k) 0 (s .sizes)) (eqb (length cells) (4 * sum (s .sizes))) (allRanged (count cells) cells)
   where
     go : (a b c d : Bool) → (unless a 1 orElse unless b 2 orElse unless c 3 orElse unless d 4) ≤ 4

@@ -11,7 +11,6 @@ use lib.ListN.{length, getD, take, drop}
 use lib.Seq.{getD-drop, getD-take}
 use borrow.Author.Tests.{ltb-true, ltb-false, lt-ltb, le-ltb}
 use Rattle.lists.specs.Lists.{All, none-left, _and_, sum}
-use Rattle.geometry.proofs.Machine.{rect-eq}
 use Rattle.plan.specs.Plan.{rectAt, Layer, layersOf}
 use Rattle.plan.specs.Spots.{Spot, nextLayer, spotOf, layerAt, Has, rectOf}
 
@@ -64,8 +63,7 @@ spots-ascend (n ∷ ns) j k h = go (ltb j n) refl (ltb k n) refl (λ i. spots-as
 -- ---- rectangles of a part of the cells
 same-rect : (part cells : List ℤ) (i j : ℕ) → ((k : ℕ) → k < 4 → getD part (4 * i + k) (pos 0) ≡ getD cells (4 * j + k) (pos 0)) → rectAt part i ≡ rectAt cells j
 unfolding rectAt
-same-rect part cells i j f =
-    rect-eq {a = rectAt part i} {b = rectAt cells j} (first (f 0 (omega arith))) (f 1 (omega arith)) (f 2 (omega arith)) (f 3 (omega arith))
+same-rect part cells i j f = rw (first (f 0 (omega arith)), f 1 (omega arith), f 2 (omega arith), f 3 (omega arith))
   where
     first : getD part (4 * i + 0) (pos 0) ≡ getD cells (4 * j + 0) (pos 0) → getD part (4 * i) (pos 0) ≡ getD cells (4 * j) (pos 0)
     first e = let p : 4 * i + 0 ≡ 4 * i = omega arith in let q : 4 * j + 0 ≡ 4 * j = omega arith in rw (p, q) at e

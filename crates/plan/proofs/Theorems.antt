@@ -1,23 +1,32 @@
 -- The promises on causes hold of every plan.
-use mathlib.Core.Path.{_≡_, refl}
-use mathlib.Core.List.{List, [], _∷_}
+use mathlib.Core.Path.{_≡_, refl, ap, _∙_}
+use mathlib.Core.List.{List, [], _∷_, _++_}
 use mathlib.Core.Bool.{Bool, true, false, _&&_, _||_}
 use mathlib.Core.Logic.{_↔_, _⊎_, inl, inr}
 use Prim.Native.Nat.{ℕ, zero, suc, _+_, _*_, _≤_, _<_, zero-le}
 use native.Mathlib.Omega.{arith}
-use lib.IntN.{ℤ}
+use lib.IntN.{ℤ, pos}
 use lib.Dec.{eqb, leb, ltb}
 use lib.ListN.{length, getD}
-use lib.Seq.{length-take-le}
+use lib.Seq.{length-take-le, getD-append-add, getD-take}
 use borrow.Author.Tests.{le-leb, leb-true, eq-eqb, eqb-true, le-ltb, lt-ltb}
 use Rattle.lists.specs.Lists.{Tells, sum}
 use Rattle.lists.proofs.Tests.{both, and-true, total, tells}
 use Rattle.geometry.proofs.Rectangles.{ranged, in-range}
 use Rattle.plan.specs.declared.Shape.{Shape}
 use Rattle.plan.specs.Causes.{unless, _orElse_}
-use Rattle.plan.specs.Plan.{count, sizeFits, sizesFit, allRanged, shapeCause, planCause}
+use Rattle.plan.specs.Plan.{rectAt, count, sizeFits, sizesFit, allRanged, planCause}
 use Rattle.plan.specs.Theorems.{Layered, Sized, Filled, AllIn, CausesHold, Plans}
 use Rattle.plan.proofs.Plan.{ranged-at, ranged-all, framed, front-sum, checked}
+
+-- ---- the cells of a rectangle
+fields : (p : ℕ) (front : List ℤ) (left bottom right top : ℤ) (rest : List ℤ) → length front ≡ 4 * p
+    → rectAt (front ++ left ∷ bottom ∷ right ∷ top ∷ rest) p ≡ record { left = left; bottom = bottom; right = right; top = top }
+unfolding rectAt
+fields p front left bottom right top rest e = rw (at (4 * p) 0 (omega arith), at (4 * p + 1) 1 (omega arith), at (4 * p + 2) 2 (omega arith), at (4 * p + 3) 3 (omega arith))
+  where
+    at : (m i : ℕ) → m ≡ length front + i → getD (front ++ left ∷ bottom ∷ right ∷ top ∷ rest) m (pos 0) ≡ getD (left ∷ bottom ∷ right ∷ top ∷ rest) i (pos 0)
+    at m i q = ap (λ (n : ℕ). getD (front ++ left ∷ bottom ∷ right ∷ top ∷ rest) n (pos 0)) q ∙ getD-append-add front _ i (pos 0)
 
 -- ---- causes
 -- what each test tells
@@ -98,7 +107,7 @@ module _ (P Q R S : Type 0) where
   }
 
 causes-hold : (s : Shape) (cells : List ℤ) → CausesHold s cells
-unfolding planCause shapeCause
+unfolding planCause
 causes-hold s cells = record { none = f .none; one = f .one; two = f .two; three = f .three; four = f .four }
   where
     f : First (Layered s) (Sized s) (Filled s cells) (AllIn cells) (planCause s cells)
@@ -110,6 +119,8 @@ causes-hold s cells = record { none = f .none; one = f .one; two = f .two; three
 
 pub plans : Plans
 plans = record {
+  fields = fields;
+  sizes = λ s j h. getD-take (s .k) (s .sizes) j 0 h;
   causes = causes-hold;
   frames = λ s cells h.
       let f = framed s cells h in

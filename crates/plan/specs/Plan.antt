@@ -55,14 +55,11 @@ abbrev pub allRanged : ℕ → List ℤ → Bool
 allRanged zero cells = true
 allRanged (suc n) cells = allRanged n cells && inRange (rectAt cells n)
 
--- the first of the causes 1 and 2 that applies to a shape
-unfoldable pub shapeCause : Shape → ℕ
-shapeCause s = unless (leb 2 (s .k) && leb (s .k) mostLayers) 1 orElse unless (sizesFit (s .k) 0 (s .sizes)) 2
-
 -- the first of the causes 1 to 4 that applies to a plan
 unfoldable pub planCause : Shape → List ℤ → ℕ
 planCause s cells =
-    shapeCause s orElse unless (eqb (length cells) (4 * sum (s .sizes))) 3 orElse unless (allRanged (count cells) cells) 4
+    unless (leb 2 (s .k) && leb (s .k) mostLayers) 1 orElse unless (sizesFit (s .k) 0 (s .sizes)) 2
+    orElse unless (eqb (length cells) (4 * sum (s .sizes))) 3 orElse unless (allRanged (count cells) cells) 4
 
 -- what the types of a shape's fields say: six sizes, as [u32; 6] does
 pub record Typed (s : Shape) : Type 0 where

@@ -1,6 +1,6 @@
--- Theorem: what is promised of the causes of every plan. Proved in proofs/Theorems.antt.
+-- Theorem: what is promised of the rectangles and of the causes of every plan. Proved in proofs/Theorems.antt.
 use mathlib.Core.Path.{_≡_}
-use mathlib.Core.List.{List}
+use mathlib.Core.List.{List, _∷_, _++_}
 use mathlib.Core.Logic.{_↔_}
 use Prim.Native.Nat.{ℕ, _*_, _≤_, _<_}
 use lib.IntN.{ℤ}
@@ -37,6 +37,11 @@ pub record CausesHold (s : Shape) (cells : List ℤ) : Type 0 where
   pub four : (planCause s cells ≡ 4) ↔ (Layered s × Sized s × Filled s cells × (AllIn cells → ⊥))
 
 pub record Plans : Type 0 where
+  -- "four for each rectangle: left, bottom, right, top": those of the rectangle with number p stand behind 4p cells
+  pub fields : (p : ℕ) (front : List ℤ) (left bottom right top : ℤ) (rest : List ℤ) → length front ≡ 4 * p
+      → rectAt (front ++ left ∷ bottom ∷ right ∷ top ∷ rest) p ≡ record { left = left; bottom = bottom; right = right; top = top }
   pub causes : (s : Shape) (cells : List ℤ) → CausesHold s cells
+  -- the sizes of the layers are the first k
+  pub sizes : (s : Shape) (j : ℕ) → j < s .k → getD (sizesOf s) j 0 ≡ getD (s .sizes) j 0
   -- what the checks let through is what the table and the walk ask for; the sizes of the layers make up n, and there are k
   pub frames : (s : Shape) (cells : List ℤ) → Sound s cells → Framed (sizesOf s) cells × (sum (sizesOf s) ≡ sum (s .sizes)) × (length (sizesOf s) ≡ s .k)

@@ -5,10 +5,13 @@ use crate::Shape;
 use crate::rect_at;
 use geometry::in_range;
 ghost use mathlib.Core.Path.{_≡_};
-ghost use Prim.Native.Nat.{_*_, _≤_};
-ghost use lib.ListN.{length};
+ghost use mathlib.Core.Bool.{_&&_};
+ghost use Prim.Native.Nat.{_≤_};
+ghost use lib.Dec.{leb};
 ghost use Rattle.lists.specs.Lists.{sum};
-ghost use Rattle.plan.specs.Plan.{count, sizeFits, sizesFit, allRanged, shapeCause, planCause};
+ghost use Rattle.plan.specs.Plan.{count, sizeFits, sizesFit, allRanged, planCause};
+ghost use Rattle.plan.specs.Limits.{mostLayers};
+ghost use Rattle.plan.specs.Causes.{unless, _orElse_};
 
 // The first of the causes 1 to 4 that applies, or 0.
 pub fn plan_cause(shape: Shape, cells: &[i32]) -> u32
@@ -26,7 +29,7 @@ pub fn plan_cause(shape: Shape, cells: &[i32]) -> u32
 
 // The first of the causes 1 and 2 that applies, or 0.
 fn shape_cause(shape: Shape) -> u32
-    ensures { λ r. ⌜ r ≡ shapeCause shape ⌝ }
+    ensures { λ r. ⌜ r ≡ (unless (leb 2 (shape .k) && leb (shape .k) mostLayers) 1 orElse unless (sizesFit (shape .k) 0 (shape .sizes)) 2) ⌝ }
 {
     let k = shape.k as usize;
     if k < 2 {
@@ -64,21 +67,14 @@ fn size_fits(n: u32, j: usize, k: usize) -> bool
     n == 0
 }
 
-// How many rectangles a plan of this shape has.
+// How many rectangles a plan of this shape has: the sum of its six sizes.
 pub fn count_of(shape: Shape) -> usize
     ensures { λ r. ⌜ (r ≡ sum (shape .sizes)) × (r ≤ 25769803770) ⌝ }
 {
-    sum_in(&shape.sizes)
-}
-
-// The sum of at most six sizes.
-fn sum_in(sizes: &[u32]) -> usize
-    requires { ⌜ length (now sizes) ≤ 6 ⌝ }
-    ensures { λ r. ⌜ (r ≡ sum (now (sizes .entry))) × (r ≤ 25769803770) ⌝ }
-{
+    let sizes = shape.sizes;
     let mut n: usize = 0;
     let mut j = 0;
-    while j < sizes.len() {
+    while j < MOST_LAYERS {
         n += sizes[j] as usize;
         j += 1;
     }

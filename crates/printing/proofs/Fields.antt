@@ -7,7 +7,7 @@ use Rattle.decimal.specs.Numerals.{decimal}
 use Rattle.decimal.specs.Stores.{Put}
 use Rattle.decimal.proofs.Stores.{Left, left-all, left-put, left-none}
 use Rattle.decimal.proofs.Places.{at-byte}
-use Rattle.printing.specs.Parts.{tabbed, Room}
+use Rattle.printing.specs.Parts.{tabbed, FitsAt}
 use Rattle.printing.proofs.Puts.{room-left}
 
 module _ (first : List ℕ) (from : ℕ) (ns : List ℕ) where
@@ -24,7 +24,7 @@ module _ (first : List ℕ) (from : ℕ) (ns : List ℕ) where
     split : i < length ns → Left first from (tabbed ns) buf at (tabbed (getD ns i 0 ∷ drop (i + 1) ns))
     split h = rw (at-byte ns i h) at (f .left)
 
-    pub next-field-room : i < length ns → Room first from (tabbed ns) → Room buf at (9 ∷ decimal (getD ns i 0))
+    pub next-field-room : i < length ns → FitsAt first from (tabbed ns) → FitsAt buf at (9 ∷ decimal (getD ns i 0))
     next-field-room h r = room-left _ _ _ _ _ (9 ∷ decimal (getD ns i 0)) _ r (split h)
 
     pub next-field : i < length ns → (last : List ℕ) (r : ℕ) → Put buf at (9 ∷ decimal (getD ns i 0)) last r → Fields last r (i + 1)

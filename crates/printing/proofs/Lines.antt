@@ -11,7 +11,7 @@ use Rattle.decimal.specs.Numerals.{digits, decimal}
 use Rattle.decimal.proofs.Numerals.{length-decimal, size-most}
 use Rattle.plan.specs.Plan.{Layer}
 use Rattle.paging.specs.Pages.{cellsOf}
-use Rattle.printing.specs.Lines.{fieldsEnd, ROW, rowFields, line, rowLine, rowLines, hundredths, squareMetres, totalLine, refusedLine, TOTAL}
+use Rattle.printing.specs.Lines.{fieldsEnd, ROW, rowFields, lineOf, rowLine, rowLines, hundredths, squareMetres, totalLine, refusedLine, TOTAL}
 use Rattle.printing.specs.Parts.{tabbed}
 
 -- ---- parts
@@ -36,7 +36,7 @@ metres-of area h e = rw e
 -- the total's line, given what the total says
 pub total-parts : (rows probes : ℕ) (total : Total) (area : ℕ) → area ≡ valueOf total
     → totalLine rows probes total ≡ TOTAL ++ fieldsEnd (decimal rows ∷ decimal probes ∷ squareMetres (hundredths area) ∷ [])
-unfolding line
+unfolding lineOf
 total-parts rows probes total area e = rw e
 
 -- ---- lengths: no number has more than twenty digits
@@ -51,8 +51,8 @@ tabbed-few : (ns r : List ℕ) → length (tabbed ns ++ r) ≤ 21 * length ns + 
 tabbed-few [] r = omega arith
 tabbed-few (n ∷ ns) r = rw (append-assoc (decimal n) (tabbed ns) r) (omega (arith, length-append (decimal n) (tabbed ns ++ r), few n, tabbed-few ns r))
 
-row-few : (layer : ℕ) (row : List ℕ) (area : ℕ) → length (line ROW (rowFields layer row area)) ≤ 46 + 21 * length row
-unfolding line
+row-few : (layer : ℕ) (row : List ℕ) (area : ℕ) → length (lineOf ROW (rowFields layer row area)) ≤ 46 + 21 * length row
+unfolding lineOf
 row-few layer row area =
     let end = fieldsEnd (decimal area ∷ []) in
     let e : length end ≤ 22 = field-few (decimal area) (10 ∷ []) 20 1 (few area) (omega arith) in
@@ -72,7 +72,7 @@ unfolding squareMetres
 metres-few h = omega (arith, length-append (decimal (h / 100)) (46 ∷ digits 2 h), few (h / 100))
 
 pub total-few : (rows probes : ℕ) (total : Total) → length (totalLine rows probes total) ≤ 72
-unfolding line
+unfolding lineOf
 total-few rows probes total =
     let h = hundredths (valueOf total) in
     let last = fieldsEnd (squareMetres h ∷ []) in
@@ -81,5 +81,5 @@ total-few rows probes total =
     omega (arith, field-few (decimal rows) (fieldsEnd (decimal probes ∷ squareMetres h ∷ [])) 20 46 (few rows) b)
 
 pub refused-few : (cause : ℕ) → length (refusedLine cause) ≤ 29
-unfolding line
+unfolding lineOf
 refused-few cause = omega (arith, field-few (decimal cause) (10 ∷ []) 20 1 (few cause) (omega arith))

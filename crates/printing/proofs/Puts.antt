@@ -6,16 +6,16 @@ use native.Mathlib.Omega.{arith}
 use lib.ListN.{length, set, length-append, length-set}
 use Rattle.decimal.specs.Stores.{Put}
 use Rattle.decimal.proofs.Stores.{Left, left-all, left-put, left-last, left-room, put-length}
-use Rattle.printing.specs.Parts.{Room}
+use Rattle.printing.specs.Parts.{FitsAt}
 
 module _ (buf : List ℕ) (at : ℕ) (xs ys : List ℕ) where
   -- where there is room for both, there is for the first
-  pub room-first : Room buf at (xs ++ ys) → Room buf at xs
+  pub room-first : FitsAt buf at (xs ++ ys) → FitsAt buf at xs
   room-first h = record { fits = omega (arith, h .fits, length-append xs ys) }
 
   module _ (mid : List ℕ) (m : ℕ) (whole : List ℕ) where
     -- and, behind it, for the second
-    pub room-second : Room buf at whole → Put buf at xs mid m → whole ≡ xs ++ ys → Room mid m ys
+    pub room-second : FitsAt buf at whole → Put buf at xs mid m → whole ≡ xs ++ ys → FitsAt mid m ys
     room-second h p e =
         let h' = rw e at (h .fits) in
         record { fits = omega (arith, length-append xs ys, p .place, put-length buf mid xs at m p) }
@@ -33,5 +33,5 @@ pub first-length : (buf last cells : List ℕ) (at r b : ℕ) → Put (set buf a
 first-length buf last cells at r b p = put-length _ _ _ _ _ p ∙ length-set buf at b
 
 -- where the whole has room, so has the first of what is left
-pub room-left : (first : List ℕ) (start : ℕ) (whole buf : List ℕ) (at : ℕ) (cells rest : List ℕ) → Room first start whole → Left first start whole buf at (cells ++ rest) → Room buf at cells
+pub room-left : (first : List ℕ) (start : ℕ) (whole buf : List ℕ) (at : ℕ) (cells rest : List ℕ) → FitsAt first start whole → Left first start whole buf at (cells ++ rest) → FitsAt buf at cells
 room-left first start whole buf at cells rest h l = record { fits = left-room first start whole buf at cells rest (h .fits) l }

@@ -25,8 +25,8 @@ use Rattle.rows.proofs.RowCall.{fits-long, sizes-of}
 use Rattle.paging.specs.Theorems.{rowsIn}
 use Rattle.decimal.specs.Stores.{Put}
 use Rattle.decimal.proofs.Stores.{Left, left-all, left-put, left-none}
-use Rattle.printing.specs.Lines.{line, ROW, rowFields, rowLine, rowLines}
-use Rattle.printing.specs.Parts.{AllRows, Rows, Room}
+use Rattle.printing.specs.Lines.{lineOf, ROW, rowFields, rowLine, rowLines}
+use Rattle.printing.specs.Parts.{AllRows, TableRows, FitsAt}
 use Rattle.printing.proofs.Puts.{room-left}
 
 -- ---- the ground of a row of the join
@@ -37,10 +37,10 @@ module _ (ls : List Layer) (row : List ℕ) (r : Sharing) (e : r ≡ groundOf ls
 
   -- the row's line is made of what it tells
   module _ (g : Ground) (f : r ≡ Shared g) (area : ℕ) (a : area ≡ areaOf (g .common)) where
-    pub row-told : rowLine ls row ≡ line ROW (rowFields (g .guard + 1) row area)
+    pub row-told : rowLine ls row ≡ lineOf ROW (rowFields (g .guard + 1) row area)
     row-told = rw (ground-layer ls row g (sym f ∙ e), ground-area ls row g (sym f ∙ e) area a)
 
-    pub row-room : (buf : List ℕ) (at : ℕ) → Room buf at (rowLine ls row) → Room buf at (line ROW (rowFields (g .guard + 1) row area))
+    pub row-room : (buf : List ℕ) (at : ℕ) → FitsAt buf at (rowLine ls row) → FitsAt buf at (lineOf ROW (rowFields (g .guard + 1) row area))
     row-room buf at h = rw row-told at h
 
 -- its guard is in one of at most six layers
@@ -68,7 +68,7 @@ module _ (sizes : List ℕ) (k : ℕ) (cells : List ℤ) (table : List ℕ) (n :
     pub rows : AllRows among (rowsIn k (n - i) (drop start table))
     pub left : Left first from (rowLines among (rowsIn k n table)) buf at (rowLines among (rowsIn k (n - i) (drop start table)))
 
-  pub none-yet : Rows sizes k cells table n → Ahead first from 0 0
+  pub none-yet : TableRows sizes k cells table n → Ahead first from 0 0
   none-yet h =
       let z : n - 0 ≡ n = omega arith in
       record { inside = omega arith; rows = rw z (h .all); left = rw z (left-all _ _ _) }
@@ -96,7 +96,7 @@ module _ (sizes : List ℕ) (k : ℕ) (cells : List ℤ) (table : List ℕ) (n :
       left = rw split at (a .left)
 
       -- it lies in the table
-      pub row-inside : Rows sizes k cells table n → start + k ≤ length table
+      pub row-inside : TableRows sizes k cells table n → start + k ≤ length table
       row-inside r =
           let e = length-take k sizes in
           let l = row-long (take k sizes) cells (take k (drop start table)) (parts .0) in
@@ -106,7 +106,7 @@ module _ (sizes : List ℕ) (k : ℕ) (cells : List ℤ) (table : List ℕ) (n :
         pub is-row : isRow among row ≡ true
         is-row = rw e (parts .0)
 
-        pub next-row-room : Room first from (rowLines among (rowsIn k n table)) → Room buf at (rowLine among row)
+        pub next-row-room : FitsAt first from (rowLines among (rowsIn k n table)) → FitsAt buf at (rowLine among row)
         next-row-room r = rw e (room-left _ _ _ _ _ (rowLine among (take k (drop start table))) _ r left)
 
         -- its line is put

@@ -14,8 +14,8 @@ fieldsEnd [] = 10 ∷ []
 fieldsEnd (f ∷ fs) = 9 ∷ f ++ fieldsEnd fs
 
 -- a line of a word and fields
-unfoldable pub line : List ℕ → List (List ℕ) → List ℕ
-line word fs = word ++ fieldsEnd fs
+unfoldable pub lineOf : List ℕ → List (List ℕ) → List ℕ
+lineOf word fs = word ++ fieldsEnd fs
 
 -- the words
 abbrev pub ROW : List ℕ
@@ -33,7 +33,7 @@ rowFields layer places area = decimal layer ∷ (map decimal places ++ decimal a
 
 -- layers are numbered from 1
 abbrev pub rowLine : List Layer → List ℕ → List ℕ
-rowLine ls row = line ROW (rowFields (suc (guardLayer (rects ls row))) row (areaIn ls row))
+rowLine ls row = lineOf ROW (rowFields (suc (guardLayer (rects ls row))) row (areaIn ls row))
 
 abbrev pub rowLines : List Layer → List (List ℕ) → List ℕ
 rowLines ls [] = []
@@ -50,8 +50,8 @@ squareMetres h = decimal (h / 100) ++ 46 ∷ digits 2 h
 
 -- probes are 01's trials
 abbrev pub totalLine : (rows probes : ℕ) → Total → List ℕ
-totalLine rows probes total = line TOTAL (decimal rows ∷ decimal probes ∷ squareMetres (hundredths (valueOf total)) ∷ [])
+totalLine rows probes total = lineOf TOTAL (decimal rows ∷ decimal probes ∷ squareMetres (hundredths (valueOf total)) ∷ [])
 
 -- ---- 01: "A refusal prints REFUSED and its number alone."
 abbrev pub refusedLine : (cause : ℕ) → List ℕ
-refusedLine cause = line REFUSED (decimal cause ∷ [])
+refusedLine cause = lineOf REFUSED (decimal cause ∷ [])

@@ -22,11 +22,11 @@ abbrev pub AllRows : List Layer → List (List ℕ) → Type 0
 AllRows ls rows = All (λ row. isRow ls row ≡ true) rows
 
 -- the first n rows of a table are rows of the first k layers' join
-pub record Rows (sizes : List ℕ) (k : ℕ) (cells : List ℤ) (table : List ℕ) (n : ℕ) : Type 0 where
+pub record TableRows (sizes : List ℕ) (k : ℕ) (cells : List ℤ) (table : List ℕ) (n : ℕ) : Type 0 where
   pub inside : k ≤ length sizes
   pub framed : Framed (take k sizes) cells
   pub all : AllRows (layersOf (take k sizes) cells) (rowsIn k n table)
 
 -- a buffer has room for bytes at a place
-pub record Room (buf : List ℕ) (at : ℕ) (bytes : List ℕ) : Type 0 where
+pub record FitsAt (buf : List ℕ) (at : ℕ) (bytes : List ℕ) : Type 0 where
   pub fits : at + length bytes ≤ length buf

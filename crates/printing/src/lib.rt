@@ -15,12 +15,12 @@ ghost use Rattle.plan.specs.Plan.{layersOf};
 ghost use Rattle.plan.specs.Frames.{Framed};
 ghost use Rattle.rows.specs.RowCall.{isRow};
 ghost use Rattle.paging.specs.Theorems.{rowsIn};
-ghost use Rattle.printing.specs.Lines.{fieldsEnd, ROW, line, rowFields, rowLine, rowLines, hundredths, squareMetres, totalLine, refusedLine};
-ghost use Rattle.printing.specs.Parts.{tabbed, Rows, Room};
+ghost use Rattle.printing.specs.Lines.{fieldsEnd, ROW, lineOf, rowFields, rowLine, rowLines, hundredths, squareMetres, totalLine, refusedLine};
+ghost use Rattle.printing.specs.Parts.{tabbed, TableRows, FitsAt};
 
 // A tab and a number; the place behind it.
 fn put_field(buf: &mut [u8], at: usize, n: u64) -> usize
-    requires { ⌜ Room (now buf) at (9 ∷ decimal n) ⌝ }
+    requires { ⌜ FitsAt (now buf) at (9 ∷ decimal n) ⌝ }
     ensures { λ r. ⌜ Put (now (buf .entry)) at (9 ∷ decimal n) (now (buf .exit)) r ⌝ }
 {
     buf[at] = b'\t';
@@ -29,7 +29,7 @@ fn put_field(buf: &mut [u8], at: usize, n: u64) -> usize
 
 // Numbers, each behind its tab; the place behind them.
 fn put_fields(buf: &mut [u8], from: usize, ns: &[u32]) -> usize
-    requires { ⌜ Room (now buf) from (tabbed (now ns)) ⌝ }
+    requires { ⌜ FitsAt (now buf) from (tabbed (now ns)) ⌝ }
     ensures { λ r. ⌜ Put (now (buf .entry)) from (tabbed (now (ns .entry))) (now (buf .exit)) r ⌝ }
 {
     let mut at = from;
@@ -43,7 +43,7 @@ fn put_fields(buf: &mut [u8], from: usize, ns: &[u32]) -> usize
 
 // The byte that ends a line; the place behind it.
 fn end_line(buf: &mut [u8], at: usize) -> usize
-    requires { ⌜ Room (now buf) at (fieldsEnd []) ⌝ }
+    requires { ⌜ FitsAt (now buf) at (fieldsEnd []) ⌝ }
     ensures { λ r. ⌜ Put (now (buf .entry)) at (fieldsEnd []) (now (buf .exit)) r ⌝ }
 {
     buf[at] = b'\n';
@@ -52,7 +52,7 @@ fn end_line(buf: &mut [u8], at: usize) -> usize
 
 // The last field of a line, and the byte that ends it; the place behind them.
 fn put_last(buf: &mut [u8], at: usize, n: u64) -> usize
-    requires { ⌜ Room (now buf) at (fieldsEnd (decimal n ∷ [])) ⌝ }
+    requires { ⌜ FitsAt (now buf) at (fieldsEnd (decimal n ∷ [])) ⌝ }
     ensures { λ r. ⌜ Put (now (buf .entry)) at (fieldsEnd (decimal n ∷ [])) (now (buf .exit)) r ⌝ }
 {
     let a = put_field(buf, at, n);
@@ -61,7 +61,7 @@ fn put_last(buf: &mut [u8], at: usize, n: u64) -> usize
 
 // A ROW line from its places on; the place behind it.
 fn put_places(buf: &mut [u8], at: usize, row: &[u32], area: u64) -> usize
-    requires { ⌜ Room (now buf) at (tabbed (now row) ++ fieldsEnd (decimal area ∷ [])) ⌝ }
+    requires { ⌜ FitsAt (now buf) at (tabbed (now row) ++ fieldsEnd (decimal area ∷ [])) ⌝ }
     ensures { λ r. ⌜ Put (now (buf .entry)) at (tabbed (now (row .entry)) ++ fieldsEnd (decimal area ∷ [])) (now (buf .exit)) r ⌝ }
 {
     let a = put_fields(buf, at, row);
@@ -70,7 +70,7 @@ fn put_places(buf: &mut [u8], at: usize, row: &[u32], area: u64) -> usize
 
 // A ROW line from its layer on; the place behind it.
 fn put_layer(buf: &mut [u8], at: usize, layer: u32, row: &[u32], area: u64) -> usize
-    requires { ⌜ Room (now buf) at (fieldsEnd (rowFields layer (now row) area)) ⌝ }
+    requires { ⌜ FitsAt (now buf) at (fieldsEnd (rowFields layer (now row) area)) ⌝ }
     ensures { λ r. ⌜ Put (now (buf .entry)) at (fieldsEnd (rowFields layer (now (row .entry)) area)) (now (buf .exit)) r ⌝ }
 {
     let a = put_field(buf, at, layer as u64);
@@ -79,8 +79,8 @@ fn put_layer(buf: &mut [u8], at: usize, layer: u32, row: &[u32], area: u64) -> u
 
 // A ROW line; the place behind it.
 fn put_row(buf: &mut [u8], at: usize, layer: u32, row: &[u32], area: u64) -> usize
-    requires { ⌜ Room (now buf) at (line ROW (rowFields layer (now row) area)) ⌝ }
-    ensures { λ r. ⌜ Put (now (buf .entry)) at (line ROW (rowFields layer (now (row .entry)) area)) (now (buf .exit)) r ⌝ }
+    requires { ⌜ FitsAt (now buf) at (lineOf ROW (rowFields layer (now row) area)) ⌝ }
+    ensures { λ r. ⌜ Put (now (buf .entry)) at (lineOf ROW (rowFields layer (now (row .entry)) area)) (now (buf .exit)) r ⌝ }
 {
     let a = put_word(buf, at, b"ROW");
     put_layer(buf, a, layer, row, area)
@@ -97,7 +97,7 @@ fn put_joined(
 ) -> usize
     requires { ⌜ (k ≤ length (now sizes)) × Framed (take k (now sizes)) (now cells) ⌝ }
     requires { ⌜ isRow (layersOf (take k (now sizes)) (now cells)) (now row) ≡ true ⌝ }
-    requires { ⌜ Room (now buf) at (rowLine (layersOf (take k (now sizes)) (now cells)) (now row)) ⌝ }
+    requires { ⌜ FitsAt (now buf) at (rowLine (layersOf (take k (now sizes)) (now cells)) (now row)) ⌝ }
     ensures { λ r. ⌜ Put (now (buf .entry)) at (rowLine (layersOf (take k (now (sizes .entry))) (now (cells .entry))) (now (row .entry))) (now (buf .exit)) r ⌝ }
 {
     match row_ground(sizes, k, cells, row) {
@@ -128,8 +128,8 @@ fn put_rows(
     table: &[u32],
     n: usize,
 ) -> usize
-    requires { ⌜ Rows (now sizes) k (now cells) (now table) n ⌝ }
-    requires { ⌜ Room (now buf) from (rowLines (layersOf (take k (now sizes)) (now cells)) (rowsIn k n (now table))) ⌝ }
+    requires { ⌜ TableRows (now sizes) k (now cells) (now table) n ⌝ }
+    requires { ⌜ FitsAt (now buf) from (rowLines (layersOf (take k (now sizes)) (now cells)) (rowsIn k n (now table))) ⌝ }
     ensures { λ r. ⌜ Put (now (buf .entry)) from (rowLines (layersOf (take k (now (sizes .entry))) (now (cells .entry))) (rowsIn k n (now (table .entry)))) (now (buf .exit)) r ⌝ }
 {
     let mut at = from;
@@ -159,7 +159,7 @@ fn last_digit(n: u64) -> u8
 
 // The point and two decimals of hundredths; the place behind them.
 fn put_decimals(buf: &mut [u8], at: usize, h: u64) -> usize
-    requires { ⌜ Room (now buf) at (46 ∷ digits 2 h) ⌝ }
+    requires { ⌜ FitsAt (now buf) at (46 ∷ digits 2 h) ⌝ }
     ensures { λ r. ⌜ Put (now (buf .entry)) at (46 ∷ digits 2 h) (now (buf .exit)) r ⌝ }
 {
     let tenths = last_digit(h / 10);
@@ -169,7 +169,7 @@ fn put_decimals(buf: &mut [u8], at: usize, h: u64) -> usize
 
 // A tab and hundredths with two decimals; the place behind them.
 fn put_metres(buf: &mut [u8], at: usize, h: u64) -> usize
-    requires { ⌜ Room (now buf) at (9 ∷ squareMetres h) ⌝ }
+    requires { ⌜ FitsAt (now buf) at (9 ∷ squareMetres h) ⌝ }
     ensures { λ r. ⌜ Put (now (buf .entry)) at (9 ∷ squareMetres h) (now (buf .exit)) r ⌝ }
 {
     let a = put_field(buf, at, h / 100);
@@ -178,7 +178,7 @@ fn put_metres(buf: &mut [u8], at: usize, h: u64) -> usize
 
 // A TOTAL line from its square metres on; the place behind it.
 fn put_area(buf: &mut [u8], at: usize, area: u64) -> usize
-    requires { ⌜ Room (now buf) at (fieldsEnd (squareMetres (hundredths area) ∷ [])) ⌝ }
+    requires { ⌜ FitsAt (now buf) at (fieldsEnd (squareMetres (hundredths area) ∷ [])) ⌝ }
     ensures { λ r. ⌜ Put (now (buf .entry)) at (fieldsEnd (squareMetres (hundredths area) ∷ [])) (now (buf .exit)) r ⌝ }
 {
     let a = put_metres(buf, at, hundredths_of(area));
@@ -187,7 +187,7 @@ fn put_area(buf: &mut [u8], at: usize, area: u64) -> usize
 
 // A TOTAL line from its probes on; the place behind it.
 fn put_probes(buf: &mut [u8], at: usize, probes: u64, area: u64) -> usize
-    requires { ⌜ Room (now buf) at (fieldsEnd (decimal probes ∷ squareMetres (hundredths area) ∷ [])) ⌝ }
+    requires { ⌜ FitsAt (now buf) at (fieldsEnd (decimal probes ∷ squareMetres (hundredths area) ∷ [])) ⌝ }
     ensures { λ r. ⌜ Put (now (buf .entry)) at (fieldsEnd (decimal probes ∷ squareMetres (hundredths area) ∷ [])) (now (buf .exit)) r ⌝ }
 {
     let a = put_field(buf, at, probes);
@@ -196,7 +196,7 @@ fn put_probes(buf: &mut [u8], at: usize, probes: u64, area: u64) -> usize
 
 // A TOTAL line from its rows on; the place behind it.
 fn put_counts(buf: &mut [u8], at: usize, rows: u32, probes: u64, area: u64) -> usize
-    requires { ⌜ Room (now buf) at (fieldsEnd (decimal rows ∷ decimal probes ∷ squareMetres (hundredths area) ∷ [])) ⌝ }
+    requires { ⌜ FitsAt (now buf) at (fieldsEnd (decimal rows ∷ decimal probes ∷ squareMetres (hundredths area) ∷ [])) ⌝ }
     ensures { λ r. ⌜ Put (now (buf .entry)) at (fieldsEnd (decimal rows ∷ decimal probes ∷ squareMetres (hundredths area) ∷ [])) (now (buf .exit)) r ⌝ }
 {
     let a = put_field(buf, at, rows as u64);
@@ -205,7 +205,7 @@ fn put_counts(buf: &mut [u8], at: usize, rows: u32, probes: u64, area: u64) -> u
 
 // The TOTAL line; the place behind it.
 fn put_total(buf: &mut [u8], at: usize, rows: u32, probes: u64, total: Total) -> usize
-    requires { ⌜ Room (now buf) at (totalLine rows probes total) ⌝ }
+    requires { ⌜ FitsAt (now buf) at (totalLine rows probes total) ⌝ }
     ensures { λ r. ⌜ Put (now (buf .entry)) at (totalLine rows probes total) (now (buf .exit)) r ⌝ }
 {
     let a = put_word(buf, at, b"TOTAL");
@@ -223,8 +223,8 @@ pub fn put_table(
     probes: u64,
     total: Total,
 ) -> usize
-    requires { ⌜ Rows (now sizes) k (now cells) (now table) n ⌝ }
-    requires { ⌜ Room (now buf) 0 (rowLines (layersOf (take k (now sizes)) (now cells)) (rowsIn k n (now table)) ++ totalLine n probes total) ⌝ }
+    requires { ⌜ TableRows (now sizes) k (now cells) (now table) n ⌝ }
+    requires { ⌜ FitsAt (now buf) 0 (rowLines (layersOf (take k (now sizes)) (now cells)) (rowsIn k n (now table)) ++ totalLine n probes total) ⌝ }
     ensures { λ r. ⌜ Put (now (buf .entry)) 0 (rowLines (layersOf (take k (now (sizes .entry))) (now (cells .entry))) (rowsIn k n (now (table .entry))) ++ totalLine n probes total) (now (buf .exit)) r ⌝ }
 {
     let at = put_rows(buf, 0, sizes, k, cells, table, n as usize);
@@ -233,7 +233,7 @@ pub fn put_table(
 
 // The REFUSED line; the place behind it.
 pub fn put_refused(buf: &mut [u8], at: usize, cause: u32) -> usize
-    requires { ⌜ Room (now buf) at (refusedLine cause) ⌝ }
+    requires { ⌜ FitsAt (now buf) at (refusedLine cause) ⌝ }
     ensures { λ r. ⌜ Put (now (buf .entry)) at (refusedLine cause) (now (buf .exit)) r ⌝ }
 {
     let a = put_word(buf, at, b"REFUSED");

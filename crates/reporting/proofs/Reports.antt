@@ -23,10 +23,10 @@ use Rattle.paging.proofs.Overlays.{lawful}
 use Rattle.sweep.proofs.Theorems.{order-passes}
 use Rattle.paging.proofs.Runs.{run-holds}
 use Rattle.printing.specs.Lines.{rowLines, totalLine, refusedLine}
-use Rattle.printing.specs.Parts.{Room}
+use Rattle.printing.specs.Parts.{FitsAt}
 use Rattle.printing.proofs.Lines.{rows-few, total-few, refused-few}
 use Rattle.reporting.specs.Report.{runTableCells, emptyTable, tableReport, roomForAny}
-use Rattle.reporting.specs.Parts.{first, Lent, planReport}
+use Rattle.reporting.specs.Parts.{planCells, Lent, planReport}
 use Rattle.paging.specs.Overlays.{overlay}
 
 pub empty-long : length emptyTable ≡ runTableCells
@@ -39,7 +39,7 @@ swept s cells order after sound h e = e ∙ sym (order-made s cells order sound 
 
 -- ---- the plan's cells, n rectangles of four, and the parts of the buffers that it takes
 module _ (s : Shape) (lent : List ℤ) (n : ℕ) (e : n ≡ sum (s .sizes)) where
-  pub lent-report : planReport s (first s lent) ≡ planReport s (take (4 * n) lent)
+  pub lent-report : planReport s (planCells s lent) ≡ planReport s (take (4 * n) lent)
   lent-report = rw e
 
   module _ (h : Lent s lent) where
@@ -84,7 +84,7 @@ module _ (s : Shape) (cells : List ℤ) (sound : Sound s cells) (order table : L
       )
 
 -- a refusal has room where any report has
-pub refused-room : (out : List ℕ) (cause : ℕ) → roomForAny ≤ length out → Room out 0 (refusedLine cause)
+pub refused-room : (out : List ℕ) (cause : ℕ) → roomForAny ≤ length out → FitsAt out 0 (refusedLine cause)
 refused-room out cause h = record { fits = omega (arith, refused-few cause) }
 
 -- no report on a plan is longer

@@ -24,9 +24,9 @@ use Rattle.paging.specs.Theorems.{rowsIn}
 use Rattle.sweep.proofs.Theorems.{order-passes}
 use Rattle.paging.proofs.Runs.{run-holds}
 use Rattle.printing.specs.Lines.{rowLines, totalLine, refusedLine}
-use Rattle.printing.specs.Parts.{Rows, Room}
+use Rattle.printing.specs.Parts.{TableRows, FitsAt}
 use Rattle.reporting.specs.Report.{runTableCells, emptyTable, tableReport, roomForAny}
-use Rattle.reporting.specs.Parts.{Ran, planReport}
+use Rattle.reporting.specs.Parts.{RanInto, planReport}
 use Rattle.reporting.proofs.Reports.{same-cause, lines-fit}
 
 -- ---- the whole run's answers
@@ -52,11 +52,11 @@ module _ (rows probes : ℕ) (total : Total) where
 -- the run's answer and its table
 pub ran : (s : Shape) (cells : List ℤ) (order lent : List ℕ) (run : Run) (table : List ℕ)
     → Sound s cells → order ≡ sweepOrder cells → length lent ≡ runTableCells
-    → run ≡ runCall s cells order lent → table ≡ runTable s cells order lent → Ran s cells run table
+    → run ≡ runCall s cells order lent → table ≡ runTable s cells order lent → RanInto s cells run table
 ran s cells order lent run table sound o long e f =
     record { sound = sound; lent = lent; long = long; answer = rw o at e; filled = rw o at f }
 
-module _ (s : Shape) (cells : List ℤ) (run : Run) (table : List ℕ) (h : Ran s cells run table) where
+module _ (s : Shape) (cells : List ℤ) (run : Run) (table : List ℕ) (h : RanInto s cells run table) where
   -- what is printed where it refuses
   pub refused-report : (c : ℕ) → run ≡ Refused c → planReport s cells ≡ refusedLine c
   unfolding runCall planReport
@@ -89,11 +89,11 @@ module _ (s : Shape) (cells : List ℤ) (run : Run) (table : List ℕ) (h : Ran 
     printed = rw (told .read) (told .is)
 
     -- what is asked for where the lines are put
-    pub rows-run : Rows (s .sizes) (s .k) cells table rows
+    pub rows-run : TableRows (s .sizes) (s .k) cells table rows
     rows-run =
         let f = framed s cells (h .sound) in
         let t = tables .tables (sizesOf s) cells (f .1) in
         record { inside = f .0; framed = f .1; all = rw (told .read) (all-of-mem (tableOf (sizesOf s) cells) (λ row m. Row.rows .rows s cells (h .sound) .names row .1 (t .is .sound row m))) }
 
-    pub lines-room : (out : List ℕ) → roomForAny ≤ length out → Room out 0 (rowLines (layers s cells) (rowsIn (s .k) rows table) ++ totalLine rows probes total)
+    pub lines-room : (out : List ℕ) → roomForAny ≤ length out → FitsAt out 0 (rowLines (layers s cells) (rowsIn (s .k) rows table) ++ totalLine rows probes total)
     lines-room out k = rw (told .read) (record { fits = omega (arith, told .short) })

@@ -18,8 +18,8 @@ use Rattle.decimal.specs.Stores.{Put}
 use Rattle.decimal.proofs.Stores.{put-start, put-length}
 use Rattle.printing.specs.Lines.{refusedLine}
 use Rattle.printing.proofs.Lines.{refused-few}
-use Rattle.reporting.specs.Report.{reportOf, reportCause, roomForAny, putInto, outAfter}
-use Rattle.reporting.specs.Parts.{first, Lent, planReport}
+use Rattle.reporting.specs.Report.{reportOf, reportCause, roomForAny, outAfter}
+use Rattle.reporting.specs.Parts.{planCells, Lent, planReport}
 use Rattle.reporting.proofs.Reports.{plan-longest}
 
 pub long-text : (t : List ℕ) → 65536 < length t → reportOf t ≡ refusedLine 13
@@ -64,7 +64,7 @@ module _ (t : List ℕ) (cells : List ℤ) (r : Reading) (short : length t ≤ 6
     cells-read : after ≡ textCells t ++ drop (length (textCells t)) cells
     cells-read = g ∙ rw (long, accepted)
 
-    first-read : first (r .shape) after ≡ textCells t
+    first-read : planCells (r .shape) after ≡ textCells t
     first-read = rw (shape-read, cells-read) (take-at (textCells t) (drop (length (textCells t)) cells) (4 * sum (textShape t .sizes)) (round-trip .only mostCells t accepted .four))
 
     pub plan-lent : Lent (r .shape) after
@@ -75,7 +75,7 @@ module _ (t : List ℕ) (cells : List ℤ) (r : Reading) (short : length t ≤ 6
           sound = rw (first-read, shape-read) (p .sound);
         }
 
-    pub plan-reading : reportOf t ≡ planReport (r .shape) (first (r .shape) after)
+    pub plan-reading : reportOf t ≡ planReport (r .shape) (planCells (r .shape) after)
     plan-reading = plan-text t short accepted ∙ rw (first-read, shape-read)
 
 -- ---- the buffer
@@ -86,14 +86,9 @@ Inside r out = (r ≤ length out) × (r ≡ length (take r out))
 inside : (r : ℕ) (out : List ℕ) → r ≤ length out → Inside r out
 inside r out h = (h, omega (arith, length-take r out))
 
-pub printed-none : (t out : List ℕ) → length out < roomForAny → (0 ≡ length (putInto (length out) t)) × ((out ≡ outAfter t out) × Inside 0 out)
-unfolding putInto
-printed-none t out h = rw (lt-leb roomForAny (length out) h) (refl, (refl, inside 0 out (omega arith)))
-
-pub printed-all : (t out last : List ℕ) (r : ℕ) → roomForAny ≤ length out → Put out 0 (reportOf t) last r
-    → (r ≡ length (putInto (length out) t)) × ((last ≡ outAfter t out) × Inside r last)
-unfolding putInto
-printed-all t out last r h p =
+pub printed : (t out last : List ℕ) (r : ℕ) → roomForAny ≤ length out → Put out 0 (reportOf t) last r
+    → (r ≡ length (reportOf t)) × ((last ≡ outAfter t out) × Inside r last)
+printed t out last r h p =
     let e = put-start out last (reportOf t) r (omega (arith, never-longer t)) p in
     let l = put-length out last (reportOf t) 0 r p in
-    rw (le-leb roomForAny (length out) h) (omega (arith, p .place), (e, inside r last (omega (arith, p .place, l, never-longer t))))
+    (omega (arith, p .place), (e, inside r last (omega (arith, p .place, l, never-longer t))))

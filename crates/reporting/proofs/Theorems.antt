@@ -7,6 +7,7 @@ use native.Mathlib.Nat.{div-le-self}
 use native.Mathlib.Omega.{arith}
 use lib.IntN.{ℤ}
 use lib.ListN.{length}
+use lib.Seq.{take-append-seam, drop-append-seam}
 use borrow.Author.Tests.{le-leb, lt-leb}
 use Rattle.totals.specs.Totals.{totalOf}
 use Rattle.lists.proofs.Tests.{total}
@@ -74,4 +75,4 @@ prints t = size (total (length t) 65536)
     size (inr h) = rw (long-text t h) (Theorems.long h)
 
 pub reports : Reports
-reports = record { prints = prints; fits = never-longer }
+reports = record { prints = prints; fits = never-longer; put = λ t out. (take-append-seam (reportOf t) _, drop-append-seam (reportOf t) _) }

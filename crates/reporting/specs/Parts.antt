@@ -19,16 +19,16 @@ unfoldable pub planReport : Shape → List ℤ → List ℕ
 planReport s cells = onCause (runCause s cells (sweepOrder cells) emptyTable) (tableReport s cells) refusedLine
 
 -- the first cells, four for each rectangle of a shape
-abbrev pub first : Shape → List ℤ → List ℤ
-first s lent = take (4 * sum (s .sizes)) lent
+abbrev pub planCells : Shape → List ℤ → List ℤ
+planCells s lent = take (4 * sum (s .sizes)) lent
 
 -- they are the cells of a sound plan
 pub record Lent (s : Shape) (lent : List ℤ) : Type 0 where
   pub fits : 4 * sum (s .sizes) ≤ length lent
-  pub sound : Sound s (first s lent)
+  pub sound : Sound s (planCells s lent)
 
 -- a whole run of a sound plan, in its sweep order and into `runTableCells` cells: its answer, and the table that it left
-pub record Ran (s : Shape) (cells : List ℤ) (run : Run) (table : List ℕ) : Type 0 where
+pub record RanInto (s : Shape) (cells : List ℤ) (run : Run) (table : List ℕ) : Type 0 where
   pub sound : Sound s cells
   pub lent : List ℕ
   pub long : length lent ≡ runTableCells

@@ -1,6 +1,5 @@
 -- What the report program prints for a text (01, "The report").
-use mathlib.Core.List.{List, [], _++_}
-use mathlib.Core.Bool.{cond}
+use mathlib.Core.List.{List, _++_}
 use Prim.Native.Nat.{ℕ}
 use lib.Dec.{leb}
 use lib.IntN.{ℤ}
@@ -37,14 +36,10 @@ unfoldable pub reportOf : List ℕ → List ℕ
 reportOf t = onCause (reportCause t) (tableReport (textShape t) (textCells t)) refusedLine
 
 -- ---- the buffer that it is put into before it is printed
--- room for any report (specs/Theorems.antt, `fits`)
+-- how long it is: room for any report (specs/Theorems.antt, `fits`)
 abbrev pub roomForAny : ℕ
 roomForAny = 655360
 
--- what is put into a buffer of `room` bytes: nothing where there is not room for any report
-unfoldable pub putInto : ℕ → List ℕ → List ℕ
-putInto room t = cond (leb roomForAny room) (reportOf t) []
-
--- the buffer afterwards: that stands at its start, the rest is kept
+-- the buffer afterwards: the report stands at its start, the rest is kept
 abbrev pub outAfter : List ℕ → List ℕ → List ℕ
-outAfter t out = let p = putInto (length out) t in p ++ drop (length p) out
+outAfter t out = reportOf t ++ drop (length (reportOf t)) out

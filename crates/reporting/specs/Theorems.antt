@@ -3,7 +3,7 @@ use mathlib.Core.Path.{_≡_}
 use mathlib.Core.List.{List, _++_, map}
 use mathlib.Core.Bool.{true}
 use Prim.Native.Nat.{ℕ, _/_, _≤_, _<_}
-use lib.ListN.{length}
+use lib.ListN.{length, take, drop}
 use Rattle.totals.specs.Totals.{totalOf}
 use Rattle.plan.specs.Plan.{sizesOf, layers}
 use Rattle.join.specs.Join.{areaIn}
@@ -12,7 +12,7 @@ use Rattle.walk.specs.Walk.{walkOf}
 use Rattle.text.specs.Parsing.{wellFormed}
 use Rattle.text.specs.Theorems.{PlanText}
 use Rattle.printing.specs.Lines.{rowLines, totalLine, refusedLine}
-use Rattle.reporting.specs.Report.{reportOf, roomForAny}
+use Rattle.reporting.specs.Report.{reportOf, outAfter}
 use Rattle.lists.specs.Lists.{sum}
 
 -- what is printed for t, in each case
@@ -32,4 +32,6 @@ pub data Prints (t : List ℕ) : List ℕ → Type 0 where
 pub record Reports : Type 0 where
   pub prints : (t : List ℕ) → Prints t (reportOf t)
   -- the program's buffer has room for it
-  pub fits : (t : List ℕ) → length (reportOf t) ≤ roomForAny
+  pub fits : (t : List ℕ) → length (reportOf t) ≤ 655360
+  -- it stands at the start of the buffer, and the rest is as it was
+  pub put : (t out : List ℕ) → (take (length (reportOf t)) (outAfter t out) ≡ reportOf t) × (drop (length (reportOf t)) (outAfter t out) ≡ drop (length (reportOf t)) out)

@@ -18,8 +18,8 @@ ghost use Rattle.plan.specs.Limits.{mostCells};
 ghost use Rattle.plan.specs.Plan.{count, Sound};
 ghost use Rattle.sweep.specs.Sweep.{sweepOrder};
 ghost use Rattle.decimal.specs.Stores.{Put};
-ghost use Rattle.reporting.specs.Report.{runTableCells, roomForAny, reportOf, putInto, outAfter};
-ghost use Rattle.reporting.specs.Parts.{first, Lent, Ran, planReport};
+ghost use Rattle.reporting.specs.Report.{runTableCells, roomForAny, reportOf, outAfter};
+ghost use Rattle.reporting.specs.Parts.{planCells, Lent, RanInto, planReport};
 
 // The longest input.
 const LONGEST_INPUT: usize = 65536;
@@ -27,19 +27,12 @@ const LONGEST_INPUT: usize = 65536;
 // The cells of the table that the whole run is made into.
 const RUN_TABLE_CELLS: usize = 12288;
 
-// Room for any report.
-const ROOM_FOR_ANY: usize = 655360;
-
-// What the report program prints for a text, put into a lent buffer; its length. A buffer that has not room for any report
-// takes nothing.
-pub fn report(text: &[u8], out: &mut [u8]) -> usize
-    ensures length { λ r. ⌜ r ≡ length (putInto (length (now (out .entry))) (now (text .entry))) ⌝ }
+// What the report program prints for a text, put into a lent buffer that has room for any report; its length.
+pub fn report(text: &[u8], out: &mut [u8; 655360]) -> usize
+    ensures length { λ r. ⌜ r ≡ length (reportOf (now (text .entry))) ⌝ }
     ensures buffer { λ _. ⌜ now (out .exit) ≡ outAfter (now (text .entry)) (now (out .entry)) ⌝ }
     ensures inside { λ r. ⌜ (r ≤ length (now (out .exit))) × (r ≡ length (take r (now (out .exit)))) ⌝ }
 {
-    if out.len() < ROOM_FOR_ANY {
-        return 0;
-    }
     report_on(text, out)
 }
 
@@ -59,15 +52,32 @@ pub fn report_buffer() -> [u8; 655360]
 }
 
 // Reads a text from standard input into a lent buffer, has the report made in the other, and writes it to standard output; how many
-// bytes it read.
-pub fn answer(text: &mut [u8], out: &mut [u8]) -> usize
-    ensures read { λ n. ⌜ n ≤ length (now (text .exit)) ⌝ }
+// bytes it read. The system is trusted for what no contract can say: that these bytes are the input, all of it where there are fewer
+// than 65,537, and that the bytes written reach standard output.
+pub fn answer(text: &mut [u8; 65537], out: &mut [u8; 655360]) -> usize
+    ensures read { λ n. ⌜ (n ≤ 65537) × (length (now (text .exit)) ≡ 65537) ⌝ }
     ensures made { λ n. ⌜ now (out .exit) ≡ outAfter (take n (now (text .exit))) (now (out .entry)) ⌝ }
 {
     let n = io::read_full(STDIN_FILENO, text);
-    let size = report(&text[..n], out);
-    io::write_all(STDOUT_FILENO, &out[..size]);
+    let size = report_first(text, n, out);
+    write_first(out, size);
     n
+}
+
+// The report on the first n bytes of a buffer; its length.
+fn report_first(text: &[u8], n: usize, out: &mut [u8; 655360]) -> usize
+    requires { ⌜ (n ≤ length (now text)) × (n ≡ length (take n (now text))) ⌝ }
+    ensures { λ _. ⌜ now (out .exit) ≡ outAfter (take n (now (text .entry))) (now (out .entry)) ⌝ }
+    ensures { λ r. ⌜ (r ≤ length (now (out .exit))) × (r ≡ length (take r (now (out .exit)))) ⌝ }
+{
+    report(&text[..n], out)
+}
+
+// Writes the first n bytes of a buffer to standard output.
+fn write_first(buf: &[u8], n: usize)
+    requires { ⌜ (n ≤ length (now buf)) × (n ≡ length (take n (now buf))) ⌝ }
+{
+    io::write_all(STDOUT_FILENO, &buf[..n]);
 }
 
 // The report on a text, where there is room for any.
@@ -97,7 +107,7 @@ fn report_text(text: &[u8], cells: &mut [i32], out: &mut [u8]) -> usize
 // The report on a sound plan, whose cells stand first in the lent ones.
 fn report_plan(shape: Shape, lent: &[i32], out: &mut [u8]) -> usize
     requires { ⌜ Lent shape (now lent) × (roomForAny ≤ length (now out)) ⌝ }
-    ensures { λ r. ⌜ Put (now (out .entry)) 0 (planReport shape (first shape (now (lent .entry)))) (now (out .exit)) r ⌝ }
+    ensures { λ r. ⌜ Put (now (out .entry)) 0 (planReport shape (planCells shape (now (lent .entry)))) (now (out .exit)) r ⌝ }
 {
     let n = 4 * count_of(shape);
     let mut order = [0u32; MOST_RECTS];
@@ -152,7 +162,7 @@ fn report_ordered(
 
 // The report on what the whole run answered, and the table that it left.
 fn report_run(run: Run, shape: Shape, cells: &[i32], table: &[u32], out: &mut [u8]) -> usize
-    requires { ⌜ Ran shape (now cells) run (now table) × (roomForAny ≤ length (now out)) ⌝ }
+    requires { ⌜ RanInto shape (now cells) run (now table) × (roomForAny ≤ length (now out)) ⌝ }
     ensures { λ r. ⌜ Put (now (out .entry)) 0 (planReport shape (now (cells .entry))) (now (out .exit)) r ⌝ }
 {
     match run {

@@ -16,8 +16,8 @@ use Rattle.rows.specs.declared.Sharing.the-variants.{Nothing, Shared}
 use Rattle.rows.specs.declared.RowAnswer.{RowAnswer}
 use Rattle.rows.specs.declared.RowAnswer.the-variants.{Refused, NoRow, Row}
 use Rattle.join.specs.Join.{_below_, rects, commonOf, areaIn, guardLayer, Within}
-use Rattle.rows.specs.Grounds.{sharedBy, groundOf}
-use Rattle.rows.specs.RowCall.{fits, isRow, told, rowCall}
+use Rattle.rows.specs.Grounds.{sharedBy, groundOf, rowTold}
+use Rattle.rows.specs.RowCall.{fits, isRow, rowCall}
 use Rattle.join.proofs.Join.{guard-is}
 use Rattle.rows.proofs.RowCall.{sizes-of, is-row}
 use Rattle.join.proofs.Table.{within-long}
@@ -56,8 +56,8 @@ module _ (ls : List Layer) (row : List ℕ) where
       go true q = (refl, cc)
       go false q = let z : _≡_ {A = ℕ} 0 1 = cc in absurd (omega arith)
 
-  pub told-none : Nothing ≡ groundOf ls row → NoRow ≡ told ls row
-  unfolding told
+  pub told-none : Nothing ≡ groundOf ls row → NoRow ≡ rowTold ls row
+  unfolding rowTold
   told-none e = rw (ground-none e)
 
   module _ (g : Ground) (made : Shared g ≡ groundOf ls row) where
@@ -69,8 +69,8 @@ module _ (ls : List Layer) (row : List ℕ) where
     unfolding areaIn
     ground-area a q = q ∙ ap (λ (z : Ground). areaOf (z .common)) (ground-some g made .1)
 
-    pub told-some : (a : ℕ) → a ≡ areaOf (g .common) → Row (g .guard + 1) a ≡ told ls row
-    unfolding told
+    pub told-some : (a : ℕ) → a ≡ areaOf (g .common) → Row (g .guard + 1) a ≡ rowTold ls row
+    unfolding rowTold
     told-some a q = rw (ground-some g made .0, ground-area a q, ground-layer)
 
     -- the guard's layer is one of the layers
@@ -88,6 +88,6 @@ module _ (s : Shape) (cells : List ℤ) (row : List ℕ) where
   row-refused zero e h = absurd (h refl)
   row-refused (suc n) e h = rw (← e)
 
-  pub row-accepted : (r : RowAnswer) → Sound s cells → r ≡ told (layers s cells) row → r ≡ rowCall s cells row
-  unfolding rowCall
+  pub row-accepted : (r : RowAnswer) → Sound s cells → r ≡ rowTold (layers s cells) row → r ≡ rowCall s cells row
+  unfolding rowCall rowTold
   row-accepted r h e = rw (h .passed) e

@@ -13,7 +13,7 @@ use Rattle.plan.proofs.Plan.{framed}
 use Rattle.plan.proofs.Spots.{layers-long}
 use Rattle.join.specs.Join.{rects, InJoin, areaIn, guardLayer}
 use Rattle.join.specs.Table.{tableOf}
-use Rattle.rows.specs.RowCall.{isRow, told, rowCall, rowValues}
+use Rattle.rows.specs.RowCall.{isRow, rowCall, rowValues}
 use Rattle.join.specs.Theorems.{IsTable}
 use Rattle.join.proofs.Theorems.{tables}
 use Rattle.rows.proofs.RowCall.{is-row}
@@ -21,11 +21,11 @@ use Rattle.rows.specs.Theorems.{Rows, RowsHold}
 
 module _ (s : Shape) (cells : List ℤ) (row : List ℕ) (sound : Sound s cells) where
   call-row : isRow (layers s cells) row ≡ true → rowValues (rowCall s cells row) ≡ record { number = 0; layer = suc (guardLayer (rects (layers s cells) row)); area = areaIn (layers s cells) row }
-  unfolding rowCall told
+  unfolding rowCall
   call-row e = rw (sound .passed, e)
 
   call-none : isRow (layers s cells) row ≡ false → rowValues (rowCall s cells row) ≡ record { number = 0; layer = 0; area = 0 }
-  unfolding rowCall told
+  unfolding rowCall
   call-none e = rw (sound .passed, e)
 
 rows-hold : (s : Shape) (cells : List ℤ) → Sound s cells → RowsHold s cells

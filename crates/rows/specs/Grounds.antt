@@ -1,7 +1,7 @@
--- The ground of a row, as functions that look at rows hand it on; no public contract cites it.
+-- The ground of a row and what is told of it, as functions that look at rows hand it on; no public contract cites it.
 use mathlib.Core.List.{List}
 use mathlib.Core.Bool.{cond}
-use Prim.Native.Nat.{ℕ}
+use Prim.Native.Nat.{ℕ, suc}
 use lib.Signed.{ltZ}
 use Rattle.geometry.specs.declared.Rect.{Rect}
 use Rattle.geometry.specs.Rectangles.{common, nonempty, meets}
@@ -9,7 +9,9 @@ use Rattle.plan.specs.Plan.{Layer}
 use Rattle.rows.specs.declared.Ground.{Ground}
 use Rattle.rows.specs.declared.Sharing.{Sharing}
 use Rattle.rows.specs.declared.Sharing.the-variants.{Nothing, Shared}
-use Rattle.join.specs.Join.{rects, commonOf, guardLayer}
+use Rattle.rows.specs.declared.RowAnswer.{RowAnswer}
+use Rattle.rows.specs.declared.RowAnswer.the-variants.{NoRow, Row}
+use Rattle.join.specs.Join.{rects, commonOf, areaIn, guardLayer}
 use Rattle.rows.specs.RowCall.{isRow}
 
 -- the ground with one rectangle more, that of layer i: the guard is the first of the greatest lefts
@@ -23,3 +25,7 @@ sharedBy rs = cond (nonempty (commonOf rs)) (Shared (record { common = commonOf 
 -- the ground of the row that cells name: nothing where they name none
 unfoldable pub groundOf : List Layer → List ℕ → Sharing
 groundOf ls row = cond (isRow ls row) (Shared (record { common = commonOf (rects ls row); guard = guardLayer (rects ls row) })) Nothing
+
+-- what the row call answers for a plan with these layers
+unfoldable pub rowTold : List Layer → List ℕ → RowAnswer
+rowTold ls row = cond (isRow ls row) (Row (suc (guardLayer (rects ls row))) (areaIn ls row)) NoRow

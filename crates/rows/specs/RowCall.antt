@@ -24,13 +24,9 @@ fits (n ∷ ns) (p ∷ row) = ltb p n && fits ns row
 unfoldable pub isRow : List Layer → List ℕ → Bool
 isRow ls row = fits (sizesIn ls) row && nonempty (commonOf (rects ls row))
 
--- what the call answers for a plan with these layers. 01: "Where they are not k cells or name no row of J, it returns layer 0 and area 0."
-unfoldable pub told : List Layer → List ℕ → RowAnswer
-told ls row = cond (isRow ls row) (Row (suc (guardLayer (rects ls row))) (areaIn ls row)) NoRow
-
--- the row call; its checks are 1 to 4
+-- the row call; its checks are 1 to 4. 01: "Where they are not k cells or name no row of J, it returns layer 0 and area 0."
 unfoldable pub rowCall : Shape → List ℤ → List ℕ → RowAnswer
-rowCall s cells row = onCause (planCause s cells) (told (layers s cells) row) (λ n. Refused n)
+rowCall s cells row = let ls = layers s cells in onCause (planCause s cells) (cond (isRow ls row) (Row (suc (guardLayer (rects ls row))) (areaIn ls row)) NoRow) (λ n. Refused n)
 
 -- 01's number and values of each answer: the cause or 0, the guard's layer from 1, the area
 pub record RowValues : Type 0 where

@@ -14,8 +14,8 @@ ghost use lib.ListN.{length, take, drop};
 ghost use Rattle.plan.specs.Plan.{rectAt, layersOf};
 ghost use Rattle.plan.specs.Frames.{Framed};
 ghost use Rattle.join.specs.Join.{rects};
-ghost use Rattle.rows.specs.RowCall.{fits, told, rowCall};
-ghost use Rattle.rows.specs.Grounds.{takeIn, sharedBy, groundOf};
+ghost use Rattle.rows.specs.RowCall.{fits, rowCall};
+ghost use Rattle.rows.specs.Grounds.{takeIn, sharedBy, groundOf, rowTold};
 
 // What the row call answers.
 pub enum RowAnswer {
@@ -50,7 +50,7 @@ pub fn row(shape: Shape, cells: &[i32], places: &[u32]) -> RowAnswer
 // What the cells name among the first k layers of a sound plan.
 fn row_told(sizes: &[u32], k: usize, cells: &[i32], places: &[u32]) -> RowAnswer
     requires { ⌜ (k ≤ length (now sizes)) × Framed (take k (now sizes)) (now cells) ⌝ }
-    ensures { λ r. ⌜ r ≡ told (layersOf (take k (now (sizes .entry))) (now (cells .entry))) (now (places .entry)) ⌝ }
+    ensures { λ r. ⌜ r ≡ rowTold (layersOf (take k (now (sizes .entry))) (now (cells .entry))) (now (places .entry)) ⌝ }
 {
     match row_ground(sizes, k, cells, places) {
         Sharing::Nothing => RowAnswer::NoRow,

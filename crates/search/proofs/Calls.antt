@@ -14,8 +14,9 @@ use borrow.Author.Tests.{ltb-true}
 use Rattle.lists.specs.Lists.{All, none-left, _and_, sum, keep}
 use Rattle.lists.proofs.Tests.{both, total}
 use Rattle.lists.proofs.Kept.{map-++}
-use Rattle.search.specs.Paging.{Ended, Paged, page, rowsOf}
-use Rattle.search.specs.Calls.{accepts, doneIn, rowsIn, later, reported, handed, lastOf, allowing, due, Chain, end, refused, accepted, Delivered}
+use Rattle.search.specs.Paging.{Paged, page, rowsOf}
+use Rattle.search.specs.declared.Stop.the-variants.{Ended}
+use Rattle.search.proofs.Chains.{accepts, doneIn, rowsIn, later, reported, handed, lastOf, allowing, due, Chain, end, refused, accepted, Delivered}
 use Rattle.lists.proofs.Numbers.{sum-++}
 use Rattle.search.proofs.Paging.{rowsOf-++, rowsOf-first, page-rest, page-rows, page-budget, page-within, page-ended, page-moves}
 
@@ -72,7 +73,7 @@ module _ {A R X : Type 0} (out : A → Option R) (steps : List A) (budget space 
   run-front (y ∷ ys) zs (no-page e r) = no-page e (run-front ys zs r)
   run-front (y ∷ ys) zs (a-page e r) = a-page e (run-front ys zs r)
 
-  page-ends : (n : ℕ) (x : X) → n ≤ length steps → (pageAt n x .halt ≡ Ended) ↔ (n + pageAt n x .done ≡ length steps)
+  page-ends : (n : ℕ) (x : X) → n ≤ length steps → (pageAt n x .stop ≡ Ended) ↔ (n + pageAt n x .done ≡ length steps)
   page-ends n x h =
       let i = page-ended out (budget x) (space x) (drop n steps) in
       let l = length-drop n steps in
@@ -84,7 +85,7 @@ module _ {A R X : Type 0} (out : A → Option R) (steps : List A) (budget space 
   -- the last page leaves what comes behind the r steps from n on, and ends exactly where nothing does
   abbrev Last : ℕ → ℕ → Option (Paged A R) → Type 0
   Last n r none = r ≡ 0
-  Last n r (some p) = (p .rest ≡ drop (n + r) steps) × ((p .halt ≡ Ended) ↔ (n + r ≡ length steps))
+  Last n r (some p) = (p .rest ≡ drop (n + r) steps) × ((p .stop ≡ Ended) ↔ (n + r ≡ length steps))
 
   run-last : {n : ℕ} {xs : List X} → Run n xs → Last n (reported answer xs) (lastOf answer xs)
   run-last (stop h) = refl
@@ -99,7 +100,7 @@ module _ {A R X : Type 0} (out : A → Option R) (steps : List A) (budget space 
       go (some q) l = rw add-assoc at l
 
   run-ended : (ys : List X) (x : X) (zs : List X) (p : Paged A R) {n : ℕ} → Run n (ys ++ x ∷ zs) → answer x ≡ some p
-      → (p .halt ≡ Ended) ↔ (n + reported answer (ys ++ x ∷ []) ≡ length steps)
+      → (p .stop ≡ Ended) ↔ (n + reported answer (ys ++ x ∷ []) ≡ length steps)
   run-ended ys x zs p {n} r e =
       let l = run-last {n = n} (run-front (ys ++ x ∷ []) zs (rw append-assoc r)) in
       (rw (last-snoc answer ys x p e) at l) .1

@@ -1,5 +1,6 @@
 -- Laws of the search, over any state.
 pub mod Paging
+pub mod Chains
 pub mod Calls
 pub mod Traversal
 pub mod Names

@@ -1,7 +1,6 @@
 pub mod Traversal
 pub mod Names
 pub mod Paging
-pub mod Calls
 pub mod Zipper
 pub mod Positions
 pub mod Turns

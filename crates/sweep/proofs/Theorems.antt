@@ -63,6 +63,9 @@ make-causes s cells order =
       made = check-passed (planCause s cells) 7 (λ z. t);
       eight = check-failed (planCause s cells) 7 (omega (arith, plan-most s cells)) (λ z. t);
       earlier = λ m p l. check-others (planCause s cells) (eqb (length order) n) 8 m p (λ e. omega arith);
+      most = or-else-most (planCause s cells) _ 8 (omega (arith, plan-most s cells)) (unless-most (eqb (length order) n) 8);
+      filled = λ e. rw e;
+      kept = λ m e. rw e;
     }
 
 -- the sweep order is not refused

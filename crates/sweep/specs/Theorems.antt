@@ -2,7 +2,7 @@
 use mathlib.Core.Path.{_≡_}
 use mathlib.Core.List.{List, List·Memᴰ}
 use mathlib.Core.Logic.{_↔_}
-use Prim.Native.Nat.{ℕ, _+_, _≤_, _<_}
+use Prim.Native.Nat.{ℕ, suc, _+_, _≤_, _<_}
 use lib.IntN.{ℤ}
 use lib.ListN.{length, getD, take}
 use Rattle.lists.specs.Lists.{Pairwise, Distinct, sum}
@@ -10,7 +10,7 @@ use Rattle.plan.specs.declared.Shape.{Shape}
 use Rattle.plan.specs.Plan.{rectAt, count, layersOf, planCause}
 use Rattle.plan.specs.Frames.{Framed}
 use Rattle.plan.specs.Spots.{spotOf, Has, rectOf}
-use Rattle.sweep.specs.Sweep.{Earlier, sweepOrder, orderCause, makeCause}
+use Rattle.sweep.specs.Sweep.{Earlier, sweepOrder, orderCause, makeCause, orderAfter}
 
 -- the numbers 0 to n − 1 and no others
 abbrev pub AllBelow : ℕ → List ℕ → Type 0
@@ -43,11 +43,15 @@ pub record OrderCauses (s : Shape) (cells : List ℤ) (order : List ℕ) : Type 
   pub earlier : (n : ℕ) → 0 < n → n < 5 → (orderCause s cells order ≡ n) ↔ (planCause s cells ≡ n)
   pub most : orderCause s cells order ≤ 5
 
--- the order maker's causes: those of the plan, and 8, "buffer not n cells", where none of them applies
+-- the order maker: its causes are those of the plan, and 8, "buffer not n cells", where none of them applies; what it leaves in the buffer
 pub record MakeCauses (s : Shape) (cells : List ℤ) (order : List ℕ) : Type 0 where
   pub made : (makeCause s cells order ≡ 0) ↔ ((planCause s cells ≡ 0) × (length order ≡ sum (s .sizes)))
   pub eight : (makeCause s cells order ≡ 8) ↔ ((planCause s cells ≡ 0) × (length order ≡ sum (s .sizes) → ⊥))
   pub earlier : (n : ℕ) → 0 < n → n < 8 → (makeCause s cells order ≡ n) ↔ (planCause s cells ≡ n)
+  pub most : makeCause s cells order ≤ 8
+  -- the buffer afterwards: the sweep order where none applies, else as it was
+  pub filled : makeCause s cells order ≡ 0 → orderAfter s cells order ≡ sweepOrder cells
+  pub kept : (n : ℕ) → makeCause s cells order ≡ suc n → orderAfter s cells order ≡ order
 
 pub record Sweeps : Type 0 where
   pub sweep : (ns : List ℕ) (cells : List ℤ) → Framed ns cells → SweepHolds ns cells

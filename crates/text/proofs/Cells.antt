@@ -16,7 +16,7 @@ use Rattle.line.specs.Parsing.{next, line}
 use Rattle.text.specs.Parsing.{allLines}
 use Rattle.text.specs.Plans.{cellsIn}
 use Rattle.line.specs.Places.{Line-at}
-use Rattle.text.specs.Filling.{restCells, Room}
+use Rattle.text.specs.Filling.{restCells, LinesFit}
 use Rattle.text.proofs.Parsing.{first-then, first-none}
 use Rattle.lists.specs.Lists.{isSome, listIn}
 
@@ -38,7 +38,7 @@ pub record Filling (s : List ℕ) (start : ℕ) (first cells : List ℤ) (at i :
   pub formed : isSome (allLines (drop at s)) ≡ true
   pub left : Left first 0 (restCells (drop start s)) cells i (restCells (drop at s))
 
-pub filling-start : (s : List ℕ) (start : ℕ) (cells : List ℤ) → Room s start (length cells) → Filling s start cells cells start 0
+pub filling-start : (s : List ℕ) (start : ℕ) (cells : List ℤ) → LinesFit s start (length cells) → Filling s start cells cells start 0
 filling-start s start cells r = record { inside = r .inside; formed = r .formed; left = left-all cells 0 (restCells (drop start s)) }
 
 module _ (s : List ℕ) (start : ℕ) (first cells : List ℤ) (at i : ℕ) (f : Filling s start first cells at i) where

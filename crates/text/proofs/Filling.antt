@@ -23,7 +23,7 @@ use Rattle.text.specs.Plans.{cellsIn, shapeIn, agrees}
 use Rattle.text.specs.Reader.{linesCause, readCause, textShape, textCells}
 use Rattle.line.specs.Places.{Line-at}
 use Rattle.text.specs.Counting.{noneYet, unformed, addLayer, addRect, addLines, addIf, tallyFrom, tallyCause}
-use Rattle.text.specs.Filling.{restCells, refused, Decided}
+use Rattle.text.specs.Filling.{restCells, refusedBy, Decided}
 use Rattle.text.proofs.Parsing.{first-then, first-none}
 use Rattle.text.proofs.Counting.{few-none, few-lines}
 use Rattle.text.proofs.Sound.{counted-cells}
@@ -44,14 +44,14 @@ refused-by room (some ls) h = go (agrees ls) h
     go true k = absurd (k refl)
     go false k = refl
 
-refusal : (s : List ℕ) (room cause : ℕ) (d : Decision) → (cause ≡ 0 → ⊥) → readCause room s ≡ cause → d ≡ refused cause → Decided s room d
-refusal s room zero d n e q = absurd (n refl)
-refusal s room (suc cause) d n e q = rw q (record { answer = rw e; room = λ z. absurd (omega arith); cells = λ z. absurd (omega arith) })
+decided-no : (s : List ℕ) (room cause : ℕ) (d : Decision) → (cause ≡ 0 → ⊥) → readCause room s ≡ cause → d ≡ refusedBy cause → Decided s room d
+decided-no s room zero d n e q = absurd (n refl)
+decided-no s room (suc cause) d n e q = rw q (record { answer = rw e; room = λ z. absurd (omega arith); cells = λ z. absurd (omega arith) })
 
 -- 9 or 10
-pub refused-form : (s : List ℕ) (room cause : ℕ) (d : Decision) → (cause ≡ 0 → ⊥) → cause ≡ formCause (linesOf s) → d ≡ refused cause → Decided s room d
+pub refused-form : (s : List ℕ) (room cause : ℕ) (d : Decision) → (cause ≡ 0 → ⊥) → cause ≡ formCause (linesOf s) → d ≡ refusedBy cause → Decided s room d
 unfolding readCause
-refused-form s room cause d n e q = refusal s room cause d n (refused-by room (linesOf s) (λ z. n (e ∙ z)) ∙ sym e) q
+refused-form s room cause d n e q = decided-no s room cause d n (refused-by room (linesOf s) (λ z. n (e ∙ z)) ∙ sym e) q
 
 -- ---- the first line
 unformed-lines : (t : Tally) (ls : List Line) → allInner ls ≡ false → addLines t ls ≡ unformed
@@ -175,8 +175,8 @@ module _ (s : List ℕ) (k : ℤ) (i : ℕ) (p : Line-at s 0 (Plan k) i) where
 
 -- ---- 11, or the plan
 module _ (s : List ℕ) (k : ℤ) (i room : ℕ) (t : Tally) (a : Accepted s k i t) where
-  pub refused-room : (d : Decision) → room < 4 * t .rects → d ≡ refused 11 → Decided s room d
-  refused-room d h q = refusal s room 11 d (λ z. omega arith) (a .cause room ∙ rw (lt-leb (4 * t .rects) room h)) q
+  pub refused-room : (d : Decision) → room < 4 * t .rects → d ≡ refusedBy 11 → Decided s room d
+  refused-room d h q = decided-no s room 11 d (λ z. omega arith) (a .cause room ∙ rw (lt-leb (4 * t .rects) room h)) q
 
   pub taken : i ≤ length s → 4 * t .rects ≤ room → Decided s room (record { reading = record { number = 0; shape = record { k = natAbs k; sizes = t .sizes } }; next = i })
   taken j h =

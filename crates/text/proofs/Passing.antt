@@ -16,7 +16,7 @@ use Rattle.line.specs.declared.Line.{Line}
 use Rattle.line.specs.declared.Line.the-variants.{Plan, Layer, Rectangle}
 use Rattle.text.specs.declared.Tally.{Tally}
 use Rattle.text.specs.Spelling.{allInner}
-use Rattle.text.specs.Plans.{sizesIn, counted}
+use Rattle.text.specs.Plans.{layerSizes, counted}
 use Rattle.text.specs.Counting.{spoilt, pick, layerRight, withLayer, addLayer, withRect, addRect, addLines}
 use Rattle.text.proofs.Counting.{right}
 use Rattle.text.proofs.Sound.{small, ranged}
@@ -31,8 +31,8 @@ pub record Tallied (ns : List ℕ) (t : Tally) : Type 0 where
 -- the lines are right where `due` RECT lines are to come and there are `layers` already
 pub record Fits (due layers : ℕ) (ls : List Line) : Type 0 where
   pub count : counted due ls ≡ true
-  pub few : layers + length (sizesIn ls) ≤ 6
-  pub small : small (sizesIn ls) ≡ true
+  pub few : layers + length (layerSizes ls) ≤ 6
+  pub small : small (layerSizes ls) ≡ true
   pub ranged : ranged ls ≡ true
 
 -- ---- one more
@@ -75,26 +75,26 @@ pub record Passed (sizes : List ℕ) (t : Tally) : Type 0 where
   pub due : t .due ≡ 0
   pub done : Tallied sizes t
 
-pub passes : (sizes : List ℕ) (t : Tally) (ls : List Line) → t .good ≡ true → Tallied sizes t → Fits (t .due) (t .layers) ls → Passed (sizes ++ sizesIn ls) (addLines t ls)
+pub passes : (sizes : List ℕ) (t : Tally) (ls : List Line) → t .good ≡ true → Tallied sizes t → Fits (t .due) (t .layers) ls → Passed (sizes ++ layerSizes ls) (addLines t ls)
 passes sizes t [] g d f = record { good = g; due = eqb-true (t .due) 0 (f .count); done = rw append-nil d }
 passes sizes t (Plan k ∷ ls) g d f = clash (f .count) refl
 passes sizes t (Layer (negsuc n) ∷ ls) g d f = clash (f .count) refl
 passes sizes t (Layer (pos n) ∷ ls) g d f =
     let c = both (eqb (t .due) 0) (counted n ls) (f .count) in
-    let s = both (leb n 512) (small (sizesIn ls)) (f .small) in
+    let s = both (leb n 512) (small (layerSizes ls)) (f .small) in
     let h : t .layers < 6 = omega (arith, f .few) in
     let r = passes (sizes ++ n ∷ []) (withLayer t n) ls g (tallied-layer sizes t n h d) (record { count = c .1; few = omega (arith, f .few); small = s .1; ranged = f .ranged }) in
     rw (layer-is t (pos n) (layer-yes t n (eqb-true (t .due) 0 (c .0)) h (leb-true n 512 (s .0)))) (rw append-assoc at r)
 passes sizes t (Rectangle r ∷ ls) g d f = go (t .due) refl (f .count) (passes sizes (withRect t) ls g (tallied-rect sizes t d))
   where
     go : (due : ℕ) → t .due ≡ due → counted due (Rectangle r ∷ ls) ≡ true
-        → (Fits (t .due - 1) (t .layers) ls → Passed (sizes ++ sizesIn ls) (addLines (withRect t) ls)) → Passed (sizes ++ sizesIn ls) (addLines (addRect t r) ls)
+        → (Fits (t .due - 1) (t .layers) ls → Passed (sizes ++ layerSizes ls) (addLines (withRect t) ls)) → Passed (sizes ++ layerSizes ls) (addLines (addRect t r) ls)
     go zero e c p = clash c refl
     go (suc due) e c p =
         let k = both (inRange r) (ranged ls) (f .ranged) in
         let q : due ≡ t .due - 1 = omega arith in
         let w = p (record { count = subst (λ (m : ℕ). counted m ls ≡ true) q c; few = f .few; small = f .small; ranged = k .1 }) in
-        subst (λ (u : Tally). Passed (sizes ++ sizesIn ls) (addLines u ls)) (sym (rect-is t r (omega arith) (k .0))) w
+        subst (λ (u : Tally). Passed (sizes ++ layerSizes ls) (addLines u ls)) (sym (rect-is t r (omega arith) (k .0))) w
 
 -- ---- and only right lines do
 good-layer : (t : Tally) (n : ℤ) → addLayer t n .good ≡ true → (t .good ≡ true) × (layerRight t n ≡ true)
@@ -133,7 +133,7 @@ passed t (Layer (pos n) ∷ ls) i g d h =
     record {
       count = and-true (eqb (t .due) 0) (counted n ls) (eq-eqb (t .due) 0 (r .due)) (f .count);
       few = omega (arith, f .few);
-      small = and-true (leb n 512) (small (sizesIn ls)) (le-leb n 512 (r .size)) (f .small);
+      small = and-true (leb n 512) (small (layerSizes ls)) (le-leb n 512 (r .size)) (f .small);
       ranged = f .ranged;
     }
 passed t (Rectangle r ∷ ls) i g d h =

@@ -13,21 +13,23 @@ use Rattle.lists.specs.Lists.{sum, padded}
 use Rattle.lists.proofs.Tests.{clash, both, and-true}
 use Rattle.plan.specs.declared.Shape.{Shape}
 use Rattle.plan.specs.Plan.{sizesOf, planCause, Sound}
-use Rattle.plan.proofs.Plan.{Checked, checked, front-sum}
+use Rattle.plan.proofs.Plan.{Checked, checked, front-sum, count-is, few}
 use Rattle.decimal.specs.Numerals.{mostDigits}
+use Rattle.decimal.proofs.Numerals.{size-below}
 use Rattle.line.specs.declared.Line.{Line}
 use Rattle.line.specs.declared.Line.the-variants.{Plan, Layer, Rectangle}
-use Rattle.text.specs.Spelling.{allInner, headed, allShort}
-use Rattle.text.specs.Plans.{rectLines, layerLines, planLines, sizesIn, cellsIn, shapeIn, counted, agrees}
+use Rattle.line.proofs.Lengths.{plan-length, spell-length}
+use Rattle.text.specs.Spelling.{spell, allInner, headed, allShort}
+use Rattle.text.specs.Plans.{rectLines, layerLines, planLines, layerSizes, cellsIn, shapeIn, counted, agrees}
 use Rattle.text.proofs.Sound.{passed-sound, lines-small, lines-ranged}
-use Rattle.text.proofs.Sizes.{padded-take, lines-short}
+use Rattle.text.proofs.Sizes.{padded-take, lines-short, lines-long}
 
 -- ---- from a plan to its lines
 -- lines that give these sizes and cells, where `due` RECT lines come first
 pub record Gives (due : ℕ) (ns : List ℕ) (plan : List ℤ) (ls : List Line) : Type 0 where
   pub inner : allInner ls ≡ true
   pub count : counted due ls ≡ true
-  pub sizes : sizesIn ls ≡ ns
+  pub sizes : layerSizes ls ≡ ns
   pub cells : cellsIn ls ≡ plan
 
 gives-rects : (n : ℕ) (front : List ℤ) (ns : List ℕ) (back : List ℤ) (ls : List Line) → length front ≡ 4 * n → Gives 0 ns back ls → Gives n ns (front ++ back) (rectLines front ++ ls)
@@ -64,7 +66,7 @@ module _ (s : Shape) (plan : List ℤ) (sound : Sound s plan) where
   pub plan-shape : shapeIn (planLines s plan) ≡ s
   unfolding planLines shapeIn
   plan-shape =
-      let e : padded 6 (sizesIn (layerLines (sizesOf s) plan)) ≡ s .sizes = ap (padded 6) (gives .sizes) ∙ padded-take 6 (s .k) (s .k) 0 (s .sizes) (sound .typed .sizes) (omega arith) (fit .high) (fit .fit) in
+      let e : padded 6 (layerSizes (layerLines (sizesOf s) plan)) ≡ s .sizes = ap (padded 6) (gives .sizes) ∙ padded-take 6 (s .k) (s .k) 0 (s .sizes) (sound .typed .sizes) (omega arith) (fit .high) (fit .fit) in
       ap (λ (ns : List ℕ). record { k = s .k; sizes = ns }) e
 
   pub plan-cells : cellsIn (planLines s plan) ≡ plan
@@ -74,15 +76,15 @@ module _ (s : Shape) (plan : List ℤ) (sound : Sound s plan) where
   given-back : planCause (shapeIn (planLines s plan)) (cellsIn (planLines s plan)) ≡ 0
   given-back = ap₂ planCause plan-shape plan-cells ∙ sound .passed
 
-  count : length (sizesIn (layerLines (sizesOf s) plan)) ≡ s .k
+  count : length (layerSizes (layerLines (sizesOf s) plan)) ≡ s .k
   count = ap length (gives .sizes) ∙ layers
 
   pub plan-agrees : agrees (planLines s plan) ≡ true
   unfolding agrees planLines
   plan-agrees =
       let ls = layerLines (sizesOf s) plan in
-      and-true (eqb (length (sizesIn ls)) (s .k) && counted 0 ls) (eqb (planCause (shapeIn (planLines s plan)) (cellsIn ls)) 0)
-      (and-true (eqb (length (sizesIn ls)) (s .k)) (counted 0 ls) (eq-eqb (length (sizesIn ls)) (s .k) count) (gives .count))
+      and-true (eqb (length (layerSizes ls)) (s .k) && counted 0 ls) (eqb (planCause (shapeIn (planLines s plan)) (cellsIn ls)) 0)
+      (and-true (eqb (length (layerSizes ls)) (s .k)) (counted 0 ls) (eq-eqb (length (layerSizes ls)) (s .k) count) (gives .count))
       (eq-eqb (planCause (shapeIn (planLines s plan)) (cellsIn ls)) 0 given-back)
 
   pub plan-short : allShort (planLines s plan) ≡ true
@@ -93,12 +95,21 @@ module _ (s : Shape) (plan : List ℤ) (sound : Sound s plan) where
       rw (lt-ltb (s .k) (10 ^ mostDigits) (omega (arith, fit .high)))
       (lines-short 0 ls (gives .count) (lines-small (s .k) ls count (fit .high) (gives .count) c) (lines-ranged (s .k) ls count (fit .high) (gives .count) c))
 
+  pub plan-long : length (spell (planLines s plan)) ≤ 126019
+  unfolding planLines shapeIn
+  plan-long =
+      let ls = layerLines (sizesOf s) plan in
+      let c = checked (shapeIn (planLines s plan)) (cellsIn (planLines s plan)) (passed-sound (planLines s plan) given-back) in
+      let l = lines-long 0 ls (gives .count) (lines-small (s .k) ls count (fit .high) (gives .count) c) (lines-ranged (s .k) ls count (fit .high) (gives .count) c) in
+      let n : sum (layerSizes ls) ≤ 3072 = omega (arith, ap sum (gives .sizes), front-sum s plan fit, count-is s plan fit, few s plan sound) in
+      omega (arith, l, count, fit .high, spell-length (Plan (pos (s .k))) (spell ls), plan-length (s .k), size-below 0 (s .k) (omega arith) (omega (arith, fit .high)))
+
   pub plan-headed : headed (planLines s plan) ≡ true
   unfolding planLines
   plan-headed = gives .inner
 
 -- ---- from lines to a plan
-pub lines-are : (due : ℕ) (ls : List Line) → counted due ls ≡ true → ls ≡ rectLines (take (4 * due) (cellsIn ls)) ++ layerLines (sizesIn ls) (drop (4 * due) (cellsIn ls))
+pub lines-are : (due : ℕ) (ls : List Line) → counted due ls ≡ true → ls ≡ rectLines (take (4 * due) (cellsIn ls)) ++ layerLines (layerSizes ls) (drop (4 * due) (cellsIn ls))
 lines-are zero [] e = refl
 lines-are (suc due) [] e = absurd (omega (arith, eqb-true (suc due) 0 e))
 lines-are due (Plan k ∷ ls) e = clash e refl

@@ -14,11 +14,11 @@ use Rattle.lists.proofs.Tests.{clash, both}
 use Rattle.geometry.specs.declared.Rect.{Rect}
 use Rattle.geometry.specs.Rectangles.{inRange}
 use Rattle.plan.specs.declared.Shape.{Shape}
-use Rattle.plan.specs.Plan.{rectAt, count, sizeFits, sizesFit, allRanged, shapeCause, planCause, Sound}
+use Rattle.plan.specs.Plan.{rectAt, count, sizeFits, sizesFit, allRanged, planCause, Sound}
 use Rattle.plan.proofs.Plan.{Checked, ranged-all}
 use Rattle.line.specs.declared.Line.{Line}
 use Rattle.line.specs.declared.Line.the-variants.{Plan, Layer, Rectangle}
-use Rattle.text.specs.Plans.{sizesIn, cellsIn, shapeIn, counted}
+use Rattle.text.specs.Plans.{layerSizes, cellsIn, shapeIn, counted}
 
 -- each size is at most 512
 abbrev pub small : List ℕ → Bool
@@ -59,7 +59,7 @@ sum-padded zero (n ∷ ns) h = absurd (omega arith)
 sum-padded (suc m) (n ∷ ns) h = ap (λ (k : ℕ). n + k) (sum-padded m ns (omega arith))
 
 -- ---- cells
-pub counted-cells : (due : ℕ) (ls : List Line) → counted due ls ≡ true → length (cellsIn ls) ≡ 4 * (due + sum (sizesIn ls))
+pub counted-cells : (due : ℕ) (ls : List Line) → counted due ls ≡ true → length (cellsIn ls) ≡ 4 * (due + sum (layerSizes ls))
 counted-cells due [] e = omega (arith, eqb-true due 0 e)
 counted-cells due (Plan k ∷ ls) e = clash e refl
 counted-cells due (Layer (pos n) ∷ ls) e =
@@ -100,25 +100,25 @@ ranged-is (suc n) (Rectangle r ∷ ls) e =
 -- ---- both together
 pub passed-sound : (ls : List Line) → planCause (shapeIn ls) (cellsIn ls) ≡ 0 → Sound (shapeIn ls) (cellsIn ls)
 unfolding shapeIn
-passed-sound ls e = record { typed = record { sizes = padded-long 6 (sizesIn ls) }; passed = e }
+passed-sound ls e = record { typed = record { sizes = padded-long 6 (layerSizes ls) }; passed = e }
 
-module _ (k : ℕ) (ls : List Line) (layers : length (sizesIn ls) ≡ k) (high : k ≤ 6) (count : counted 0 ls ≡ true) where
+module _ (k : ℕ) (ls : List Line) (layers : length (layerSizes ls) ≡ k) (high : k ≤ 6) (count : counted 0 ls ≡ true) where
   abbrev shape : Shape
-  shape = record { k = k; sizes = padded 6 (sizesIn ls) }
+  shape = record { k = k; sizes = padded 6 (layerSizes ls) }
 
-  whole : length (cellsIn ls) ≡ 4 * sum (padded 6 (sizesIn ls))
-  whole = omega (arith, counted-cells 0 ls count, sum-padded 6 (sizesIn ls) (omega arith))
+  whole : length (cellsIn ls) ≡ 4 * sum (padded 6 (layerSizes ls))
+  whole = omega (arith, counted-cells 0 ls count, sum-padded 6 (layerSizes ls) (omega arith))
 
   in-range : allRanged (length (cellsIn ls) / 4) (cellsIn ls) ≡ ranged ls
   in-range = ranged-is (length (cellsIn ls) / 4) ls (omega (arith, counted-cells 0 ls count))
 
-  pub sound-lines : 2 ≤ k → small (sizesIn ls) ≡ true → ranged ls ≡ true → planCause shape (cellsIn ls) ≡ 0
-  unfolding planCause shapeCause
+  pub sound-lines : 2 ≤ k → small (layerSizes ls) ≡ true → ranged ls ≡ true → planCause shape (cellsIn ls) ≡ 0
+  unfolding planCause
   sound-lines low s r =
-      rw (le-leb 2 k low, le-leb k 6 high, padded-fit 6 0 k (sizesIn ls) (omega arith) (omega arith) ∙ s, eq-eqb (length (cellsIn ls)) (4 * sum (padded 6 (sizesIn ls))) whole, in-range ∙ r)
+      rw (le-leb 2 k low, le-leb k 6 high, padded-fit 6 0 k (layerSizes ls) (omega arith) (omega arith) ∙ s, eq-eqb (length (cellsIn ls)) (4 * sum (padded 6 (layerSizes ls))) whole, in-range ∙ r)
 
-  pub lines-small : Checked shape (cellsIn ls) → small (sizesIn ls) ≡ true
-  lines-small c = sym (padded-fit 6 0 k (sizesIn ls) (omega arith) (omega arith)) ∙ c .fit
+  pub lines-small : Checked shape (cellsIn ls) → small (layerSizes ls) ≡ true
+  lines-small c = sym (padded-fit 6 0 k (layerSizes ls) (omega arith) (omega arith)) ∙ c .fit
 
   pub lines-ranged : Checked shape (cellsIn ls) → ranged ls ≡ true
   lines-ranged c = sym in-range ∙ ranged-all (cellsIn ls) (length (cellsIn ls) / 4) (c .ranged)

@@ -4,7 +4,7 @@ use mathlib.Core.List.{List, [], _∷_}
 use mathlib.Core.Option.{Option, none, some, Option·some-injective}
 use mathlib.Core.Logic.{_↔_}
 use mathlib.Core.Bool.{Bool, true, false, _&&_}
-use Prim.Native.Nat.{ℕ, _≤_, _<_}
+use Prim.Native.Nat.{ℕ, zero, suc, _≤_, _<_}
 use native.Mathlib.Omega.{arith}
 use lib.Dec.{eqb, leb}
 use lib.IntN.{ℤ, pos, negsuc}
@@ -19,16 +19,16 @@ use Rattle.plan.specs.Plan.{planCause, Sound}
 use Rattle.plan.proofs.Plan.{checked, unless-zero, plan-most, check-failed, check-others}
 use Rattle.line.specs.declared.Line.{Line}
 use Rattle.line.specs.declared.Line.the-variants.{Plan, Layer, Rectangle}
-use Rattle.text.specs.Spelling.{spell}
+use Rattle.text.specs.Spelling.{spell, Formed}
 use Rattle.text.specs.Parsing.{linesOf, wellFormed}
-use Rattle.text.specs.Plans.{layerLines, planLines, textOf, sizesIn, cellsIn, shapeIn, counted, wellCounted, agrees}
+use Rattle.text.specs.Plans.{layerLines, planLines, textOf, layerSizes, cellsIn, shapeIn, counted, wellCounted, agrees}
 use Rattle.text.specs.Reader.{linesCause, readCause, textShape, textCells}
-use Rattle.text.specs.Theorems.{Formed, PlanText, GivesBack, OfPlan, Writes, RoundTrip}
+use Rattle.text.specs.Theorems.{PlanText, GivesBack, OfPlan, Writes, ReaderRefuses, WriterRefuses, RoundTrip}
 use Rattle.text.specs.Writer.{writeCause}
 use Rattle.text.proofs.Parsing.{lines-of-spelling, spelling-of-lines}
 use Rattle.text.proofs.Sound.{passed-sound}
 use Rattle.lists.proofs.Padding.{take-padded}
-use Rattle.text.proofs.Plans.{plan-shape, plan-cells, plan-agrees, plan-short, plan-headed, lines-are}
+use Rattle.text.proofs.Plans.{plan-shape, plan-cells, plan-agrees, plan-short, plan-long, plan-headed, lines-are}
 
 -- ---- the text of a sound plan
 module _ (s : Shape) (plan : List ℤ) (sound : Sound s plan) where
@@ -63,11 +63,11 @@ headed-lines (Layer n ∷ ls) e = clash e refl
 headed-lines (Rectangle r ∷ ls) e = clash e refl
 headed-lines (Plan (negsuc k) ∷ ls) e = clash e refl
 headed-lines (Plan (pos k) ∷ ls) e =
-    let b = both (eqb (length (sizesIn ls)) k && counted 0 ls) (eqb (planCause (shapeIn (Plan (pos k) ∷ ls)) (cellsIn ls)) 0) e in
-    let c = both (eqb (length (sizesIn ls)) k) (counted 0 ls) (b .0) in
-    let l = eqb-true (length (sizesIn ls)) k (c .0) in
+    let b = both (eqb (length (layerSizes ls)) k && counted 0 ls) (eqb (planCause (shapeIn (Plan (pos k) ∷ ls)) (cellsIn ls)) 0) e in
+    let c = both (eqb (length (layerSizes ls)) k) (counted 0 ls) (b .0) in
+    let l = eqb-true (length (layerSizes ls)) k (c .0) in
     let f = checked (shapeIn (Plan (pos k) ∷ ls)) (cellsIn ls) (passed-sound (Plan (pos k) ∷ ls) (eqb-true (planCause (shapeIn (Plan (pos k) ∷ ls)) (cellsIn ls)) 0 (b .1))) in
-    let t : take k (padded 6 (sizesIn ls)) ≡ sizesIn ls = sym (ap (λ (n : ℕ). take n (padded 6 (sizesIn ls))) l) ∙ take-padded 6 (sizesIn ls) (omega (arith, f .high)) in
+    let t : take k (padded 6 (layerSizes ls)) ≡ layerSizes ls = sym (ap (λ (n : ℕ). take n (padded 6 (layerSizes ls))) l) ∙ take-padded 6 (layerSizes ls) (omega (arith, f .high)) in
     ap (λ (m : List Line). Plan (pos k) ∷ m) (lines-are 0 ls (c .1) ∙ ap (λ (ns : List ℕ). layerLines ns (cellsIn ls)) (sym t))
 
 agrees-sound : (ls : List Line) → agrees ls ≡ true → Sound (shapeIn ls) (cellsIn ls)
@@ -201,7 +201,7 @@ module _ (s : Shape) (plan : List ℤ) where
   unfolding writeCause
   writes buf sound h =
       let e : writeCause s plan (length buf) ≡ 0 = rw (sound .passed, le-leb (length (textOf s plan)) (length buf) h) in
-      record { answer = rw e; text = rw e (take-append-seam (textOf s plan) _); rest = rw e (drop-append-seam (textOf s plan) _) }
+      record { answer = rw e; number = rw e; size = rw e; told = rw e; text = rw e (take-append-seam (textOf s plan) _); rest = rw e (drop-append-seam (textOf s plan) _) }
 
   twelve : (room : ℕ) → (writeCause s plan room ≡ 12) ↔ ((planCause s plan ≡ 0) × (room < length (textOf s plan)))
   unfolding writeCause
@@ -212,6 +212,20 @@ module _ (s : Shape) (plan : List ℤ) where
   earlier : (room n : ℕ) → 0 < n → n < 12 → (writeCause s plan room ≡ n) ↔ (planCause s plan ≡ n)
   unfolding writeCause
   earlier room n p l = check-others (planCause s plan) (leb (length (textOf s plan)) room) 12 n p (λ e. omega arith)
+
+-- ---- refusals, value by value
+reader-refuses : (t : List ℕ) (cells : List ℤ) (n : ℕ) → 0 < n → readCause (length cells) t ≡ n → ReaderRefuses t cells n
+reader-refuses t cells zero h e = absurd (omega arith)
+reader-refuses t cells (suc n) h e = record { number = rw e; k = rw e; sizes = rw e; kept = rw e }
+
+writer-refuses : (s : Shape) (plan : List ℤ) (buf : List ℕ) (n : ℕ) → 0 < n → writeCause s plan (length buf) ≡ n → WriterRefuses s plan buf n
+writer-refuses s plan buf zero h e = absurd (omega arith)
+writer-refuses s plan buf (suc n) h e = record { answer = rw e; number = rw e; size = rw e; told = rw e; kept = rw e }
+
+-- ---- the longest text
+longest : (s : Shape) (plan : List ℤ) → Sound s plan → length (textOf s plan) ≤ 126019
+unfolding textOf
+longest s plan sound = plan-long s plan sound
 
 pub round-trip : RoundTrip
 round-trip = record {
@@ -225,4 +239,7 @@ round-trip = record {
   eleven = λ room t. (eleven-only room t, λ h. plan-cause room t (h .0) ∙ rw (lt-leb (length (h .0 .plan)) room (h .1)));
   twelve = twelve;
   earlier = earlier;
+  reader-refuses = reader-refuses;
+  writer-refuses = writer-refuses;
+  longest = longest;
 }

@@ -16,7 +16,7 @@ use Rattle.line.specs.declared.Line.{Line}
 use Rattle.line.specs.declared.Line.the-variants.{Plan, Layer, Rectangle}
 use Rattle.text.specs.declared.Tally.{Tally}
 use Rattle.text.specs.Spelling.{allInner}
-use Rattle.text.specs.Plans.{sizesIn, cellsIn, shapeIn, counted, agrees}
+use Rattle.text.specs.Plans.{layerSizes, cellsIn, shapeIn, counted, agrees}
 use Rattle.text.specs.Counting.{noneYet, addLayer, addRect, addLines, layersRight, tallyCause}
 use Rattle.text.proofs.Counting.{layer-formed, rect-formed}
 use Rattle.text.proofs.Sound.{passed-sound, sound-lines, lines-small, lines-ranged}
@@ -39,17 +39,17 @@ right k t = t .good && (eqb (t .due) 0 && layersRight k (t .layers))
 pub record Agreed (k : ℕ) (ls : List Line) : Type 0 where
   pub low : 2 ≤ k
   pub high : k ≤ 6
-  pub layers : length (sizesIn ls) ≡ k
+  pub layers : length (layerSizes ls) ≡ k
   pub count : counted 0 ls ≡ true
-  pub tally : Passed (sizesIn ls) (addLines noneYet ls)
+  pub tally : Passed (layerSizes ls) (addLines noneYet ls)
 
 module _ (k : ℕ) (ls : List Line) where
   pub agreed : agrees (Plan (pos k) ∷ ls) ≡ true → Agreed k ls
   unfolding agrees shapeIn
   agreed e =
-      let b = both (eqb (length (sizesIn ls)) k && counted 0 ls) (eqb (planCause (shapeIn (Plan (pos k) ∷ ls)) (cellsIn ls)) 0) e in
-      let c = both (eqb (length (sizesIn ls)) k) (counted 0 ls) (b .0) in
-      let l = eqb-true (length (sizesIn ls)) k (c .0) in
+      let b = both (eqb (length (layerSizes ls)) k && counted 0 ls) (eqb (planCause (shapeIn (Plan (pos k) ∷ ls)) (cellsIn ls)) 0) e in
+      let c = both (eqb (length (layerSizes ls)) k) (counted 0 ls) (b .0) in
+      let l = eqb-true (length (layerSizes ls)) k (c .0) in
       let s = checked (shapeIn (Plan (pos k) ∷ ls)) (cellsIn ls) (passed-sound (Plan (pos k) ∷ ls) (eqb-true (planCause (shapeIn (Plan (pos k) ∷ ls)) (cellsIn ls)) 0 (b .1))) in
       record {
         low = s .low;
@@ -74,10 +74,10 @@ module _ (k : ℕ) (ls : List Line) where
       let g = both (leb k 6) (eqb k (t .layers)) (d .1) in
       let f = passed noneYet ls i (b .0) (eqb-true (t .due) 0 (c .0)) (omega arith) in
       let p = passes [] noneYet ls refl none-tallied f in
-      let l : length (sizesIn ls) ≡ k = sym (p .done .layers) ∙ sym (eqb-true k (t .layers) (g .1)) in
+      let l : length (layerSizes ls) ≡ k = sym (p .done .layers) ∙ sym (eqb-true k (t .layers) (g .1)) in
       let h = leb-true k 6 (g .0) in
       let s = sound-lines k ls l h (f .count) (leb-true 2 k (d .0)) (f .small) (f .ranged) in
-      rw (eq-eqb (length (sizesIn ls)) k l, f .count, eq-eqb (planCause (shapeIn (Plan (pos k) ∷ ls)) (cellsIn ls)) 0 s)
+      rw (eq-eqb (length (layerSizes ls)) k l, f .count, eq-eqb (planCause (shapeIn (Plan (pos k) ∷ ls)) (cellsIn ls)) 0 s)
 
 pub verdict : (k : ℤ) (ls : List Line) → allInner ls ≡ true → tallyCause k (addLines noneYet ls) ≡ unless (agrees (Plan k ∷ ls)) 10
 unfolding tallyCause agrees

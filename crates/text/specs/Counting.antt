@@ -1,4 +1,4 @@
--- What the reader's first pass counts, line after line: no more than private contracts use.
+-- What the reader's first pass counts, line after line; no public call's contract cites it.
 use mathlib.Core.Path.{_≡_}
 use mathlib.Core.List.{List, [], _∷_}
 use mathlib.Core.Option.{Option, none, some}

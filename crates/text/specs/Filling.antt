@@ -1,4 +1,4 @@
--- What the reader's two passes promise one another: no public contract cites it.
+-- What the reader's two passes promise one another; no public call's contract cites it.
 use mathlib.Core.Path.{_≡_}
 use mathlib.Core.List.{List}
 use mathlib.Core.Bool.{true}
@@ -16,17 +16,17 @@ unfoldable pub restCells : List ℕ → List ℤ
 restCells t = cellsIn (listIn (allLines t))
 
 -- lines stand from a place to the end, and n cells hold what they give
-pub record Room (s : List ℕ) (i n : ℕ) : Type 0 where
+pub record LinesFit (s : List ℕ) (i n : ℕ) : Type 0 where
   pub inside : i ≤ length s
   pub formed : isSome (allLines (drop i s)) ≡ true
   pub fits : length (restCells (drop i s)) ≤ n
 
 -- a refusal by its number
-abbrev pub refused : ℕ → Decision
-refused cause = record { reading = record { number = cause; shape = noShape }; next = 0 }
+abbrev pub refusedBy : ℕ → Decision
+refusedBy cause = record { reading = record { number = cause; shape = noShape }; next = 0 }
 
 -- the answer, and the place from which an accepted text fills the cells
 pub record Decided (s : List ℕ) (n : ℕ) (d : Decision) : Type 0 where
   pub answer : d .reading ≡ readAnswer n s
-  pub room : d .reading .number ≡ 0 → Room s (d .next) n
+  pub room : d .reading .number ≡ 0 → LinesFit s (d .next) n
   pub cells : d .reading .number ≡ 0 → restCells (drop (d .next) s) ≡ textCells s

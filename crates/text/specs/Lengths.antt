@@ -1,4 +1,4 @@
--- The length of the LAYER lines of a text: no more than private contracts use.
+-- The length of the LAYER lines of a text; no public call's contract cites it.
 use mathlib.Core.List.{List, [], _∷_}
 use Prim.Native.Nat.{ℕ, _+_}
 use lib.IntN.{pos}

@@ -1,4 +1,4 @@
--- The lines of a whole text, read from its start.
+-- The lines of a whole text, read from its start: a test for `Formed` (specs/Spelling.antt) that also gives the lines.
 use mathlib.Core.List.{List, [], _∷_}
 use mathlib.Core.Option.{Option, none, some}
 use mathlib.Core.Bool.{Bool, cond}
@@ -31,6 +31,6 @@ allLines t = linesIn (length t) t
 unfoldable pub linesOf : List ℕ → Option (List Line)
 linesOf t = only headed (allLines t)
 
--- 01: "The text is well formed when it is a PLAN line followed by any LAYER and RECT lines so spelled." (specs/Theorems.antt, `formed`)
+-- 01: "The text is well formed when it is a PLAN line followed by any LAYER and RECT lines so spelled." It is true just of what is `Formed` (specs/Theorems.antt, `formed`)
 unfoldable pub wellFormed : List ℕ → Bool
 wellFormed t = isSome (linesOf t)

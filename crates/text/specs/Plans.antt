@@ -45,11 +45,11 @@ layersIn (Layer n ∷ ls) = 0
 layersIn (Rectangle b ∷ ls) = 0
 
 -- the sizes that the LAYER lines give
-abbrev pub sizesIn : List Line → List ℕ
-sizesIn [] = []
-sizesIn (Plan k ∷ ls) = sizesIn ls
-sizesIn (Layer n ∷ ls) = natAbs n ∷ sizesIn ls
-sizesIn (Rectangle b ∷ ls) = sizesIn ls
+abbrev pub layerSizes : List Line → List ℕ
+layerSizes [] = []
+layerSizes (Plan k ∷ ls) = layerSizes ls
+layerSizes (Layer n ∷ ls) = natAbs n ∷ layerSizes ls
+layerSizes (Rectangle b ∷ ls) = layerSizes ls
 
 -- the cells that the RECT lines give
 abbrev pub cellsIn : List Line → List ℤ
@@ -60,7 +60,7 @@ cellsIn (Rectangle b ∷ ls) = b .left ∷ b .bottom ∷ b .right ∷ b .top ∷
 
 -- the shape that lines give
 unfoldable pub shapeIn : List Line → Shape
-shapeIn ls = record { k = layersIn ls; sizes = padded 6 (sizesIn ls) }
+shapeIn ls = record { k = layersIn ls; sizes = padded 6 (layerSizes ls) }
 
 -- `due` RECT lines come first, and behind each LAYER line as many as it says
 abbrev pub counted : ℕ → List Line → Bool
@@ -74,7 +74,7 @@ counted (suc due) (Rectangle b ∷ ls) = counted due ls
 -- the PLAN line says how many LAYER lines there are, and the others are counted
 abbrev pub wellCounted : List Line → Bool
 wellCounted [] = false
-wellCounted (Plan (pos k) ∷ ls) = eqb (length (sizesIn ls)) k && counted 0 ls
+wellCounted (Plan (pos k) ∷ ls) = eqb (length (layerSizes ls)) k && counted 0 ls
 wellCounted (Plan (negsuc k) ∷ ls) = false
 wellCounted (Layer n ∷ ls) = false
 wellCounted (Rectangle b ∷ ls) = false

@@ -1,6 +1,6 @@
 -- Theorem: what is promised of plan texts, for every plan and every text. Proved in proofs/Theorems.antt.
 use mathlib.Core.Path.{_≡_}
-use mathlib.Core.List.{List, _++_}
+use mathlib.Core.List.{List, [], _∷_, _++_}
 use mathlib.Core.Bool.{true}
 use mathlib.Core.Logic.{_↔_}
 use Prim.Native.Nat.{ℕ, _*_, _≤_, _<_}
@@ -9,20 +9,12 @@ use lib.ListN.{length, take, drop}
 use Rattle.lists.specs.Lists.{sum}
 use Rattle.plan.specs.declared.Shape.{Shape}
 use Rattle.plan.specs.Plan.{planCause, Sound}
-use Rattle.line.specs.declared.Line.{Line}
-use Rattle.text.specs.Spelling.{spell, headed, allShort}
+use Rattle.text.specs.Spelling.{Formed}
 use Rattle.text.specs.Parsing.{wellFormed}
-use Rattle.text.specs.declared.Writing.the-variants.{Written}
+use Rattle.text.specs.declared.Writing.the-variants.{Written, Refused}
 use Rattle.text.specs.Plans.{textOf}
-use Rattle.text.specs.Writer.{writeCause, writeAnswer, bufferAfter}
+use Rattle.text.specs.Writer.{writeCause, writeAnswer, writeLength, numberOf, lengthOf, bufferAfter}
 use Rattle.text.specs.Reader.{readCause, textShape, textCells, readAnswer, cellsAfter}
-
--- a text is the bytes of a PLAN line followed by LAYER and RECT lines, with numbers of at most seven digits
-pub record Formed (t : List ℕ) : Type 0 where
-  pub lines : List Line
-  pub first : headed lines ≡ true
-  pub short : allShort lines ≡ true
-  pub text : t ≡ spell lines
 
 -- a text is that of a sound plan
 pub record PlanText (t : List ℕ) : Type 0 where
@@ -43,11 +35,29 @@ pub record OfPlan (room : ℕ) (t : List ℕ) : Type 0 where
   pub four : length (textCells t) ≡ 4 * sum (textShape t .sizes)
   pub fits : length (textCells t) ≤ room
 
--- the writer puts the text of a sound plan at the start of the buffer
+-- the writer returns 0 and the length of the text of a sound plan, puts the text at the start of the buffer, and keeps the rest
 pub record Writes (s : Shape) (plan : List ℤ) (buf : List ℕ) : Type 0 where
   pub answer : writeAnswer s plan (length buf) ≡ Written (length (textOf s plan))
+  pub number : numberOf (writeAnswer s plan (length buf)) ≡ 0
+  pub size : lengthOf (writeAnswer s plan (length buf)) ≡ length (textOf s plan)
+  pub told : writeLength s plan (length buf) ≡ length (textOf s plan)
   pub text : take (length (textOf s plan)) (bufferAfter s plan buf) ≡ textOf s plan
   pub rest : drop (length (textOf s plan)) (bufferAfter s plan buf) ≡ drop (length (textOf s plan)) buf
+
+-- the reader refuses a text by n: it returns n and 0 for all else, k and the six sizes, and the cells are as they were
+pub record ReaderRefuses (t : List ℕ) (cells : List ℤ) (n : ℕ) : Type 0 where
+  pub number : readAnswer (length cells) t .number ≡ n
+  pub k : readAnswer (length cells) t .shape .k ≡ 0
+  pub sizes : readAnswer (length cells) t .shape .sizes ≡ 0 ∷ 0 ∷ 0 ∷ 0 ∷ 0 ∷ 0 ∷ []
+  pub kept : cellsAfter t cells ≡ cells
+
+-- the writer refuses a plan by n: it returns n and the length 0, and the buffer is as it was
+pub record WriterRefuses (s : Shape) (plan : List ℤ) (buf : List ℕ) (n : ℕ) : Type 0 where
+  pub answer : writeAnswer s plan (length buf) ≡ Refused n
+  pub number : numberOf (writeAnswer s plan (length buf)) ≡ n
+  pub size : lengthOf (writeAnswer s plan (length buf)) ≡ 0
+  pub told : writeLength s plan (length buf) ≡ 0
+  pub kept : bufferAfter s plan buf ≡ buf
 
 pub record RoundTrip : Type 0 where
   -- demand 2: "A plan text is accepted into enough cells exactly when it is the text written for some plan, and gives that plan back."
@@ -63,3 +73,8 @@ pub record RoundTrip : Type 0 where
   pub eleven : (room : ℕ) (t : List ℕ) → (readCause room t ≡ 11) ↔ ((p : PlanText t) × (room < length (p .plan)))
   pub twelve : (s : Shape) (plan : List ℤ) (room : ℕ) → (writeCause s plan room ≡ 12) ↔ ((planCause s plan ≡ 0) × (room < length (textOf s plan)))
   pub earlier : (s : Shape) (plan : List ℤ) (room n : ℕ) → 0 < n → n < 12 → (writeCause s plan room ≡ n) ↔ (planCause s plan ≡ n)
+  -- "A refusal returns its number and 0 for all else", and leaves what it was lent as it was
+  pub reader-refuses : (t : List ℕ) (cells : List ℤ) (n : ℕ) → 0 < n → readCause (length cells) t ≡ n → ReaderRefuses t cells n
+  pub writer-refuses : (s : Shape) (plan : List ℤ) (buf : List ℕ) (n : ℕ) → 0 < n → writeCause s plan (length buf) ≡ n → WriterRefuses s plan buf n
+  -- no text of a plan is longer
+  pub longest : (s : Shape) (plan : List ℤ) → Sound s plan → length (textOf s plan) ≤ 126019

@@ -14,7 +14,7 @@ ghost use Prim.Native.Nat.{_≤_};
 ghost use lib.ListN.{length, drop};
 ghost use Rattle.line.specs.declared.Line.the-variants.{Plan};
 ghost use Rattle.line.specs.Places.{Line-at};
-ghost use Rattle.text.specs.Filling.{refused, Decided};
+ghost use Rattle.text.specs.Filling.{refusedBy, Decided};
 ghost use Rattle.text.specs.Counting.{noneYet, unformed, spoilt, layerRight, addLayer, addRect, addLine, tallyFrom, Few, layersRight, tallyCause};
 
 // The largest size of a layer.
@@ -171,7 +171,7 @@ fn layers_right(k: i32, n: usize) -> bool
 
 // A refusal by its number.
 fn refuse(cause: u32) -> Decision
-    ensures { λ r. ⌜ r ≡ refused cause ⌝ }
+    ensures { λ r. ⌜ r ≡ refusedBy cause ⌝ }
 {
     let shape = Shape {
         k: 0,

@@ -9,7 +9,7 @@ ghost use lib.ListN.{length, drop};
 ghost use Rattle.decimal.specs.Stores.{Put};
 ghost use Rattle.line.specs.declared.Line.the-variants.{Rectangle};
 ghost use Rattle.text.specs.Plans.{cellsIn};
-ghost use Rattle.text.specs.Filling.{restCells, Room};
+ghost use Rattle.text.specs.Filling.{restCells, LinesFit};
 
 // A rectangle's four cells from a place on; the place behind them.
 fn put_rect(cells: &mut [i32], i: usize, r: Rect) -> usize
@@ -41,7 +41,7 @@ fn put_line(cells: &mut [i32], i: usize, line: Line) -> usize
 
 // The cells that all lines from a place on give, from the first cell on.
 pub fn fill(s: &[u8], from: usize, cells: &mut [i32]) -> usize
-    requires { ⌜ Room (now s) from (length (now cells)) ⌝ }
+    requires { ⌜ LinesFit (now s) from (length (now cells)) ⌝ }
     ensures { λ v. ⌜ Put (now (cells .entry)) 0 (restCells (drop from (now (s .entry)))) (now (cells .exit)) v ⌝ }
 {
     let mut at = from;

@@ -1,7 +1,7 @@
 -- `put_total` puts the word and the fields, of what the total says.
 use native.Mathlib.Omega.{arith}
 use borrow.Author.Needs.{needs}
-use Rattle.printing.specs.Lines.{line}
+use Rattle.printing.specs.Lines.{lineOf}
 use Rattle.printing.proofs.Lines.{total-parts}
 use Rattle.printing.proofs.Puts.{room-second, put-both}
 use Rattle.printing.proofs.put_total.Statement.{statement}
@@ -11,7 +11,7 @@ slice-aggregate-put-word : tie.Need-slice-aggregate-put-word
 slice-aggregate-put-word c = search needs
 
 put-word-requires : tie.Need-put-word-requires
-unfolding line
+unfolding lineOf
 put-word-requires c κs = omega arith
 
 value-requires : tie.Need-value-requires

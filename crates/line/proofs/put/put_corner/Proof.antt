@@ -6,7 +6,7 @@ use mathlib.Core.List.{[]}
 use denote.Ref.{now}
 use borrow.Author.Needs.{needs}
 use Rattle.decimal.proofs.Stores.{first-room, second-room, put-then}
-use Rattle.line.specs.Lines.{put}
+use Rattle.line.specs.Lines.{putField}
 use Rattle.line.proofs.Fields.{field-joined}
 use Rattle.line.proofs.put.put_corner.Statement.{statement}
 use Rattle.line.proofs.put.put_corner.Tie as tie
@@ -16,7 +16,7 @@ put-field-requires c κs =
     let s : tie.Start = search needs in
     let a = s .args in
     let f : SFits w32 (a .x) = s .fits .x in
-    simp toZ-ofZ (s .pre .0 .0, first-room (field-joined (a .x) 9 (put (a .y) (a .e) [])) (now (a .buf)) (a .at) (s .pre .1))
+    simp toZ-ofZ (s .pre .0 .0, first-room (field-joined (a .x) 9 (putField (a .y) (a .e) [])) (now (a .buf)) (a .at) (s .pre .1))
 
 put-field-requires-2 : tie.Need-put-field-requires-2
 put-field-requires-2 c κs =
@@ -25,7 +25,7 @@ put-field-requires-2 c κs =
     let a = s .args in
     let f : SFits w32 (a .x) = s .fits .x in
     let g : SFits w32 (a .y) = s .fits .y in
-    simp toZ-ofZ (s .pre .0 .1, second-room (field-joined (a .x) 9 (put (a .y) (a .e) [])) (simp toZ-ofZ at (n .put-field .ensures)) (s .pre .1))
+    simp toZ-ofZ (s .pre .0 .1, second-room (field-joined (a .x) 9 (putField (a .y) (a .e) [])) (simp toZ-ofZ at (n .put-field .ensures)) (s .pre .1))
 
 same-length : tie.Need-same-length
 same-length c = search needs
@@ -38,7 +38,7 @@ returns c =
     let a = s .args in
     let f : SFits w32 (a .x) = s .fits .x in
     let g : SFits w32 (a .y) = s .fits .y in
-    put-then (field-joined (a .x) 9 (put (a .y) (a .e) [])) (simp toZ-ofZ at (n .put-field .ensures)) (simp toZ-ofZ at (l .put-field2 .ensures))
+    put-then (field-joined (a .x) 9 (putField (a .y) (a .e) [])) (simp toZ-ofZ at (n .put-field .ensures)) (simp toZ-ofZ at (l .put-field2 .ensures))
 
 pub put-corner-spec : {M : Type 1} → statement M
 put-corner-spec =

@@ -6,7 +6,7 @@ use mir.Facts.{toZ-ofZ}
 use borrow.Author.Needs.{needs}
 use Rattle.geometry.proofs.Machine.{Fitting}
 use Rattle.decimal.proofs.Stores.{first-room, second-room, put-then}
-use Rattle.line.specs.Lines.{RECT, put, putRect}
+use Rattle.line.specs.Lines.{RECT, putField, putRect}
 use Rattle.line.proofs.Lines.{shorts}
 use Rattle.line.proofs.Fields.{word-joined, corner-joined}
 use Rattle.line.proofs.put.put_rect_line.Statement.{statement}
@@ -30,7 +30,7 @@ put-corner-requires c κs =
     let h = shorts r (s .pre .0) in
     let f : SFits w32 (r .left) = fitting s .left in
     let g : SFits w32 (r .bottom) = fitting s .bottom in
-    simp toZ-ofZ ((h .0, h .1), first-room (corner-joined (r .left) (r .bottom) 9 (put (r .right) 9 (put (r .top) 10 []))) (w .put-word .last .0) (w .put-word .result) (second-room (word-joined RECT (putRect r [])) (w .put-word .ensures) (s .pre .1)))
+    simp toZ-ofZ ((h .0, h .1), first-room (corner-joined (r .left) (r .bottom) 9 (putField (r .right) 9 (putField (r .top) 10 []))) (w .put-word .last .0) (w .put-word .result) (second-room (word-joined RECT (putRect r [])) (w .put-word .ensures) (s .pre .1)))
 
 put-corner-requires-2 : tie.Need-put-corner-requires-2
 put-corner-requires-2 c κs =
@@ -43,7 +43,7 @@ put-corner-requires-2 c κs =
     let g : SFits w32 (r .bottom) = fitting s .bottom in
     let k : SFits w32 (r .right) = fitting s .right in
     let l : SFits w32 (r .top) = fitting s .top in
-    simp toZ-ofZ ((h .2, h .3), second-room (corner-joined (r .left) (r .bottom) 9 (put (r .right) 9 (put (r .top) 10 []))) (simp toZ-ofZ at (a .put-corner .ensures)) (second-room (word-joined RECT (putRect r [])) (w .put-word .ensures) (s .pre .1)))
+    simp toZ-ofZ ((h .2, h .3), second-room (corner-joined (r .left) (r .bottom) 9 (putField (r .right) 9 (putField (r .top) 10 []))) (simp toZ-ofZ at (a .put-corner .ensures)) (second-room (word-joined RECT (putRect r [])) (w .put-word .ensures) (s .pre .1)))
 
 same-length : tie.Need-same-length
 same-length c = search needs
@@ -60,7 +60,7 @@ returns c =
     let k : SFits w32 (r .right) = fitting s .right in
     let l : SFits w32 (r .top) = fitting s .top in
     put-then (word-joined RECT (putRect r [])) (w .put-word .ensures)
-    (put-then (corner-joined (r .left) (r .bottom) 9 (put (r .right) 9 (put (r .top) 10 []))) (simp toZ-ofZ at (a .put-corner .ensures)) (simp toZ-ofZ at (b .put-corner2 .ensures)))
+    (put-then (corner-joined (r .left) (r .bottom) 9 (putField (r .right) 9 (putField (r .top) 10 []))) (simp toZ-ofZ at (a .put-corner .ensures)) (simp toZ-ofZ at (b .put-corner2 .ensures)))
 
 pub put-rect-line-spec : {M : Type 1} → statement M
 put-rect-line-spec =

@@ -1,4 +1,4 @@
--- Theorem: what any list of page calls hands out, refused calls among them (demand 3), over any steps and any naming of them.
+-- What any list of page calls hands out, refused calls among them (demand 3), over any steps and any naming of them: proved in Calls.antt.
 use mathlib.Core.Path.{_≡_}
 use mathlib.Core.List.{List, [], _∷_, _++_, map}
 use mathlib.Core.Logic.{_↔_}
@@ -8,7 +8,8 @@ use Prim.Native.Nat.{ℕ, _≤_, _<_}
 use lib.Dec.{ltb}
 use lib.ListN.{length, take, drop}
 use Rattle.lists.specs.Lists.{All, sum, keep}
-use Rattle.search.specs.Paging.{Ended, Paged, rowsOf}
+use Rattle.search.specs.Paging.{Paged, rowsOf}
+use Rattle.search.specs.declared.Stop.the-variants.{Ended}
 
 -- ---- what one call answers: a page, or none where it is refused
 module _ {A R : Type 0} where
@@ -77,9 +78,9 @@ pub record Delivered {A R C X : Type 0} (out : A → Option R) (steps : List A) 
   pub within-budget : All (λ x. doneIn (answer x) ≤ budget x) xs
   -- an accepted call tells Ended exactly when the steps reported up to and with it add up to all the steps
   pub ended : (ys : List X) (x : X) (zs : List X) (p : Paged A R) → xs ≡ ys ++ x ∷ zs → answer x ≡ some p
-      → (p .halt ≡ Ended) ↔ (reported answer (ys ++ x ∷ []) ≡ length steps)
+      → (p .stop ≡ Ended) ↔ (reported answer (ys ++ x ∷ []) ≡ length steps)
   -- if the accepted calls that each allow a step and a row outnumber the steps, the last accepted call tells Ended
-  pub bound : length steps < allowing answer budget space xs → Option·map (λ p. p .halt) (lastOf answer xs) ≡ some Ended
+  pub bound : length steps < allowing answer budget space xs → Option·map (λ p. p .stop) (lastOf answer xs) ≡ some Ended
   -- the sums of the accepted pages, by any measure of rows, add up to the sum of the rows handed out
   pub sums : (f : R → ℕ) → sum (map (λ x. sum (map f (rowsIn (answer x)))) xs) ≡ sum (map f (handed answer xs))
   -- the cursor that is due after the last accepted call is that of what is left behind the steps reported
