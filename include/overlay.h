@@ -13,8 +13,8 @@
 #include <stddef.h>
 #include <stdint.h>
 
-/* The version of this interface: another one where a declaration, a number or the order of cells is another. */
-#define OVERLAY_VERSION 1
+/* The version of this interface: another one where a declaration, a number or the order of cells is another, or one comes. */
+#define OVERLAY_VERSION 2
 
 /* The largest plan: layers, rectangles, cells, and the bytes of its longest text, which is proved. So much is enough for every plan. */
 enum {
@@ -27,7 +27,7 @@ enum {
 /* The stack that is enough for every call (measured). */
 enum { OVERLAY_STACK_BYTES = 20480 };
 
-/* Causes, in the order in which they are checked. The last is the report program's alone, and there the first. */
+/* Causes. Each call checks those that it tells in the order in which it names them; 13 is the report program's alone, and there the first. */
 enum overlay_cause {
     OVERLAY_CAUSE_NONE = 0,
     OVERLAY_CAUSE_LAYERS = 1,       /* k is not 2 to 6 */
@@ -42,7 +42,8 @@ enum overlay_cause {
     OVERLAY_CAUSE_COUNT = 10,       /* the text is well formed, but miscounted, or 1, 2 or 4 would apply */
     OVERLAY_CAUSE_ROOM = 11,        /* the text is good, the cells are too few */
     OVERLAY_CAUSE_TEXT_LENGTH = 12, /* the text is longer than the buffer */
-    OVERLAY_CAUSE_INPUT = 13        /* the report's input has more than 65,536 bytes */
+    OVERLAY_CAUSE_INPUT = 13,       /* the report's input has more than 65,536 bytes */
+    OVERLAY_CAUSE_BOX = 14          /* the box has left > right, bottom > top or a coordinate out of range */
 };
 
 /* The cells of a cursor. The ended cursor is 1 and nine times 0. */
@@ -74,6 +75,15 @@ enum { OVERLAY_RUN_ROWS = 0, OVERLAY_RUN_PROBES = 1, OVERLAY_RUN_AREA = 2, OVERL
 /* The cells of a row's answer: the guard's layer, from 1, and the area in square millimetres. */
 enum { OVERLAY_ROW_LAYER = 0, OVERLAY_ROW_AREA = 1, OVERLAY_ROW_CELLS = 2 };
 
+/* The cells of what lies nearest: three for each of six layers, the first layer first. Where a layer is empty or past k, all three are 0. */
+enum {
+    OVERLAY_NEAR_FOUND = 0, /* whether the layer has a rectangle: 0 or 1 */
+    OVERLAY_NEAR_PLACE = 1, /* the place of the nearest; the lowest among equals */
+    OVERLAY_NEAR_GAP = 2,   /* its squared gap in square millimetres; 0 where it meets the box */
+    OVERLAY_NEAR_CELLS = 3,
+    OVERLAY_NEAREST_CELLS = 18
+};
+
 #ifdef __cplusplus
 extern "C" {
 #endif
@@ -92,6 +102,10 @@ uint32_t overlay_order_cause(uint32_t k, const uint32_t sizes[6], const int32_t 
 /* What places name in the table of a plan: layer 0 and area 0 where they are no row, which is no refusal. Tells 1 to 4. */
 uint32_t overlay_row(uint32_t k, const uint32_t sizes[6], const int32_t *cells, size_t cells_length,
                      const uint32_t *places, size_t places_length, uint64_t answer[2]);
+
+/* What lies nearest to a box (left, bottom, right, top) in each layer. Tells 1 to 4 and 14. */
+uint32_t overlay_nearest(uint32_t k, const uint32_t sizes[6], const int32_t *cells, size_t cells_length,
+                         const int32_t around[4], uint64_t answer[18]);
 
 /* The cursor of the first probe; the ended cursor where there is none, and after a refusal. Tells 1 to 5. */
 uint32_t overlay_fresh_cursor(uint32_t k, const uint32_t sizes[6], const int32_t *cells, size_t cells_length,

@@ -94,6 +94,14 @@ fn bench(name: &str, plan: &Plan) {
     );
     tell(&name, "checks", ours, rust);
 
+    let around = [-300, -200, 300, 400];
+    assert_eq!(ffi::nearest(shape, cells, around), hand::nearest(shape, cells, around));
+    let (ours, rust) = both(
+        || { black_box(ffi::nearest(shape, black_box(cells), around)); },
+        || { black_box(hand::nearest(shape, black_box(cells), around)); },
+    );
+    tell(&name, "nearest", ours, rust);
+
     let (mut text, mut copy) = (vec![0; 200_000], vec![0; 200_000]);
     let size = Library.write(shape, cells, &mut text).length;
     assert_eq!(size, hand::write(shape, cells, &mut copy).length);

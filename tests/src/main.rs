@@ -1,6 +1,7 @@
 //! Compares the reference with wrong overlays, each of which must be caught, and with itself.
 
 use overlay_tests::compare::{compare, Tally};
+use overlay_tests::nearest::{compare_nearest, nearest, WRONG_NEAREST};
 use overlay_tests::reference::{report, Reference};
 use overlay_tests::reports::compare_reports;
 use overlay_tests::wrong::{Wrong, REPORT_SLIPS, SLIPS};
@@ -34,10 +35,21 @@ fn catch_wrong_reports() {
     }
 }
 
+/// Every wrong search for what is nearest must differ from the right one somewhere.
+fn catch_wrong_nearest() {
+    for (wrong, name) in WRONG_NEAREST {
+        match compare_nearest(&wrong, &nearest) {
+            Err(found) => println!("wrong nearest caught after {} cases: {name}", found.cases),
+            Ok(_) => stop(&format!("wrong nearest not caught: {name}")),
+        }
+    }
+}
+
 /// The reference must agree with itself.
 fn compare_with_itself() -> Tally {
     let mut tally = compare(&Reference, &Reference).unwrap_or_else(|found| stop(&found.text));
     tally.add("reports", compare_reports(&report, &report).unwrap_or_else(|found| stop(&found.text)));
+    tally.add("nearest", compare_nearest(&nearest, &nearest).unwrap_or_else(|found| stop(&found.text)));
     tally
 }
 
@@ -45,5 +57,6 @@ fn compare_with_itself() -> Tally {
 fn main() {
     catch_wrong_overlays();
     catch_wrong_reports();
+    catch_wrong_nearest();
     print!("{}", compare_with_itself());
 }

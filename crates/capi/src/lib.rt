@@ -12,11 +12,14 @@ use cells::run_number;
 use cells::stop_number;
 use cells::written_length;
 use cells::written_number;
+use nearest::near_cells;
+use nearest::nearest;
 use pager::fetch_page;
 use pager::fresh_cursor;
 use pager::run_all;
 use plan::Shape;
 use plan::plan_cause;
+use plan::rect_at;
 use rows::row;
 use sweep::make_order;
 use sweep::order_cause;
@@ -24,7 +27,8 @@ use text::read;
 use text::write;
 ghost use mathlib.Core.Path.{_≡_};
 ghost use lib.ListN.{length};
-ghost use Rattle.plan.specs.Plan.{planCause};
+ghost use Rattle.plan.specs.Plan.{rectAt, planCause};
+ghost use Rattle.nearest.specs.Nearest.{nearestCall, nearCells};
 ghost use Rattle.sweep.specs.Sweep.{orderCause, makeCause, orderAfter};
 ghost use Rattle.rows.specs.RowCall.{rowCall, rowValues};
 ghost use Rattle.paging.specs.Calls.{freshCall, pageCause, pageCall, pageTable, runCall, runTable, runValues};
@@ -81,6 +85,24 @@ pub extern "C" fn overlay_row(
     let told = row(Shape { k, sizes: six }, cells, places);
     *answer = row_cells(told);
     row_number(told)
+}
+
+// What lies nearest to a box (left, bottom, right, top) in each layer. The answer's cells, three for each of six layers: found or not, place, squared gap.
+#[no_mangle]
+pub extern "C" fn overlay_nearest(
+    k: u32,
+    sizes: &[u32; 6],
+    cells: &[i32],
+    around: &[i32; 4],
+    answer: &mut [u64; 18],
+) -> u32
+    ensures number { λ r. ⌜ r ≡ nearestCall (shapeOf k (now (sizes .entry))) (now (cells .entry)) (rectAt (now (around .entry)) 0) .number ⌝ }
+    ensures answer { λ _. ⌜ now (answer .exit) ≡ nearCells (nearestCall (shapeOf k (now (sizes .entry))) (now (cells .entry)) (rectAt (now (around .entry)) 0)) ⌝ }
+{
+    let six = *sizes;
+    let told = nearest(Shape { k, sizes: six }, cells, rect_at(around, 0));
+    *answer = near_cells(told);
+    told.number
 }
 
 // The cursor of the first probe of a plan's walk.

@@ -7,6 +7,7 @@ use lib.Dec.{eqb}
 use lib.ListN.{getD}
 use mir.Val.{boolByte}
 use borrow.Author.Tests.{le-leb, lt-leb}
+use Rattle.lists.proofs.Tests.{as-number}
 use Rattle.plan.specs.Causes.{onCause}
 use Rattle.totals.specs.declared.Total.{Total}
 use Rattle.totals.specs.Totals.{valueOf}
@@ -17,11 +18,6 @@ use Rattle.paging.specs.declared.Cursor.{Cursor}
 use Rattle.paging.specs.declared.Page.{Page}
 use Rattle.paging.specs.Calls.{stopNumber, runValues}
 use Rattle.cells.specs.Cells.{cursorCells, noCursor, cursorIn, cursorAfter, runCells}
-
--- a flag as a number
-as-number : (t : Bool) → boolByte t ≡ cond t 1 0
-as-number true = refl
-as-number false = refl
 
 -- a cursor's cells as they are made
 pub made : (c : Cursor) → boolByte (c .ended) ∷ c .layer ∷ c .place ∷ c .filled ∷ getD (c .chosen) 0 0 ∷ getD (c .chosen) 1 0 ∷ getD (c .chosen) 2 0 ∷ getD (c .chosen) 3 0 ∷ getD (c .chosen) 4 0 ∷ c .next ∷ [] ≡ cursorCells c

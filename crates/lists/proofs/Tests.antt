@@ -1,12 +1,18 @@
 -- Tests: Booleans that say whether something holds, and the two cases of an order of numbers.
 use mathlib.Core.Path.{_≡_, refl, sym, _∙_, subst}
-use mathlib.Core.Bool.{Bool, true, false, not, _&&_}
+use mathlib.Core.Bool.{Bool, true, false, not, cond, _&&_}
 use mathlib.Core.Logic.{_⊎_, inl, inr}
 use Prim.Native.Nat.{ℕ, _+_, _≤_, _<_}
 use native.Mathlib.Omega.{arith}
 use lib.Dec.{T, leb, leb→le, nleb→lt}
+use mir.Val.{boolByte}
 use borrow.Author.Tests.{leb-true, le-leb}
 use Rattle.lists.specs.Lists.{Tells}
+
+-- a flag as a number
+pub as-number : (t : Bool) → boolByte t ≡ cond t 1 0
+as-number true = refl
+as-number false = refl
 
 pub clash : {t : Bool} {X : Type 0} → t ≡ true → t ≡ false → X
 clash p q = absurd (subst T (sym p ∙ q) tt)

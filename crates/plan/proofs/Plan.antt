@@ -29,6 +29,14 @@ pub or-else-zero : (a b : ℕ) → (a orElse b) ≡ 0 → (a ≡ 0) × (b ≡ 0)
 or-else-zero zero b e = (refl, e)
 or-else-zero (suc a) b e = absurd (omega arith)
 
+-- the first cause, where it applies, and the second, where it does not
+pub or-else-first : (a b n : ℕ) → n ≡ a → (n ≡ 0 → ⊥) → n ≡ (a orElse b)
+or-else-first a b zero e h = absurd (h refl)
+or-else-first a b (suc n) e h = rw (← e)
+
+pub or-else-second : (a b n : ℕ) → a ≡ 0 → n ≡ b → n ≡ (a orElse b)
+or-else-second a b n e h = rw e h
+
 -- a check that is passed
 pub unless-zero : (t : Bool) (c : ℕ) → unless t (suc c) ≡ 0 → t ≡ true
 unless-zero true c e = refl

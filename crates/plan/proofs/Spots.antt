@@ -8,7 +8,7 @@ use native.Mathlib.Omega.{arith}
 use lib.IntN.{ℤ, pos}
 use lib.Dec.{ltb}
 use lib.ListN.{length, getD, take, drop}
-use lib.Seq.{getD-drop, getD-take}
+use lib.Seq.{drop-drop, getD-drop, getD-take}
 use borrow.Author.Tests.{ltb-true, ltb-false, lt-ltb, le-ltb}
 use Rattle.lists.specs.Lists.{All, none-left, _and_, sum}
 use Rattle.plan.specs.Plan.{rectAt, Layer, layersOf}
@@ -88,6 +88,22 @@ pub size-of : (ns : List ℕ) (cells : List ℤ) (i : ℕ) → layerAt (layersOf
 size-of [] cells i = refl
 size-of (n ∷ ns) cells zero = refl
 size-of (n ∷ ns) cells (suc i) = size-of ns (drop (4 * n) cells) i
+
+-- where a layer lies in the cells
+pub layer-at : (ns : List ℕ) (cells : List ℤ) (j : ℕ) → j < length ns
+    → layerAt (layersOf ns cells) j ≡ record { size = getD ns j 0; rect = rectAt (take (4 * getD ns j 0) (drop (4 * sum (take j ns)) cells)) }
+layer-at [] cells j h = absurd (omega arith)
+layer-at (n ∷ ns) cells zero h = refl
+layer-at (n ∷ ns) cells (suc j) h =
+    let e : 4 * n + 4 * sum (take j ns) ≡ 4 * (n + sum (take j ns)) = omega arith in
+    layer-at ns (drop (4 * n) cells) j (omega arith) ∙ rw (drop-drop (4 * sum (take j ns)) (4 * n) cells, e)
+
+-- ... and that all of it lies there
+pub layer-within : (ns : List ℕ) (j : ℕ) → sum (take j ns) + getD ns j 0 ≤ sum ns
+layer-within [] zero = omega arith
+layer-within [] (suc j) = omega arith
+layer-within (n ∷ ns) zero = omega arith
+layer-within (n ∷ ns) (suc j) = omega (arith, layer-within ns j)
 
 pub layers-long : (ns : List ℕ) (cells : List ℤ) → length (layersOf ns cells) ≡ length ns
 layers-long [] cells = refl

@@ -1,5 +1,6 @@
 //! The library under test through its C interface (include/overlay.h), behind safe functions.
 
+use overlay_tests::nearest::{Near, NearestTold};
 use overlay_tests::overlay::{Overlay, Page, Reading, RowTold, Run, Shape, Stop, Ticket, Writing};
 
 #[link(name = "capi", kind = "static")]
@@ -28,6 +29,14 @@ extern "C" {
         cells_length: usize,
         places: *const u32,
         places_length: usize,
+        answer: *mut u64,
+    ) -> u32;
+    fn overlay_nearest(
+        k: u32,
+        sizes: *const u32,
+        cells: *const i32,
+        cells_length: usize,
+        around: *const i32,
         answer: *mut u64,
     ) -> u32;
     fn overlay_fresh_cursor(
@@ -130,6 +139,28 @@ pub fn order_cause(shape: &Shape, cells: &[i32], order: &[u32]) -> u32 {
     unsafe {
         overlay_order_cause(shape.k, shape.sizes.as_ptr(), cells.as_ptr(), cells.len(), order.as_ptr(), order.len())
     }
+}
+
+/// What lies nearest to a box in each layer.
+pub fn nearest(shape: &Shape, cells: &[i32], around: [i32; 4]) -> NearestTold {
+    let mut answer = [UNWRITTEN; 18];
+    // SAFETY: every pointer comes from a reference, with its length; the one written to is exclusive.
+    let number = unsafe {
+        overlay_nearest(
+            shape.k,
+            shape.sizes.as_ptr(),
+            cells.as_ptr(),
+            cells.len(),
+            around.as_ptr(),
+            answer.as_mut_ptr(),
+        )
+    };
+    let mut layers = [Near::default(); 6];
+    for (entry, cells) in layers.iter_mut().zip(answer.chunks(3)) {
+        assert!(cells[0] <= 1, "the flag of an entry is {}", cells[0]);
+        *entry = Near { found: cells[0] == 1, place: small(cells[1]), gap: cells[2] };
+    }
+    NearestTold { number, layers }
 }
 
 /// The page call on a ticket's cells: the number and the answer.

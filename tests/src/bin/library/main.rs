@@ -7,6 +7,7 @@ mod report;
 use extras::compare_extras;
 use ffi::Library;
 use overlay_tests::compare::compare;
+use overlay_tests::nearest::{compare_nearest, nearest};
 use overlay_tests::reference::Reference;
 use report::compare_program;
 use std::process::exit;
@@ -17,11 +18,13 @@ fn stop(text: &str, cases: u64) -> ! {
     exit(1);
 }
 
-/// The seven calls first, then what only the C interface has, then the report program.
+/// The seven calls of 01 first, then what only the C interface has, then those of 02, then the report program.
 fn main() {
     let mut tally = compare(&Library, &Reference).unwrap_or_else(|found| stop(&found.text, found.cases));
     let extras = compare_extras().unwrap_or_else(|text| stop(&text, tally.cases()));
     tally.add("C interface alone", extras);
+    let near = compare_nearest(&ffi::nearest, &nearest).unwrap_or_else(|found| stop(&found.text, tally.cases()));
+    tally.add("nearest", near);
     let reports = compare_program().unwrap_or_else(|found| stop(&found.text, tally.cases()));
     tally.add("report program", reports);
     print!("{tally}");

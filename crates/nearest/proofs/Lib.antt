@@ -1,0 +1,3 @@
+pub mod Gaps
+pub mod Answers
+pub mod Theorems
