@@ -1,9 +1,6 @@
 // Whole numbers in base ten: read at a place of a text and put at a place of a buffer. A number that is
-// read is short: it has at most `mostDigits` digits. Any unsigned number of 64 bits is put. Every power of
-// ten is read from one table, through one function.
-mod table;
-
-use table::power;
+// read is short: it has at most `mostDigits` digits. Any unsigned number of 64 bits is put. Powers of
+// ten are worked out, each ten times the one before.
 ghost use mathlib.Core.Path.{_≡_};
 ghost use mathlib.Core.Bool.{true, false};
 ghost use Prim.Native.Nat.{_+_, _^_, _<_, _≤_};
@@ -39,50 +36,20 @@ pub struct Digits {
     pub next: usize,
 }
 
-// How many digits n has. Up to seven are told without a loop.
+// How many digits n has. `next` is ten to the power c + 1: each power is ten times the one before.
 pub fn size_of(n: u64) -> usize
     ensures { λ r. ⌜ r ≡ size 19 n ⌝ }
 {
-    if n < power(1) {
-        return 1;
-    }
-    if n < power(2) {
-        return 2;
-    }
-    if n < power(3) {
-        return 3;
-    }
-    if n < power(4) {
-        return 4;
-    }
-    if n < power(5) {
-        return 5;
-    }
-    if n < power(6) {
-        return 6;
-    }
-    if n < power(7) {
-        return 7;
-    }
-    size_from(n, 7)
-}
-
-// How many digits n has, which are more than `least`.
-fn size_from(n: u64, least: usize) -> usize
-    requires { ⌜ (least ≤ 18) × (10 ^ least ≤ n) ⌝ }
-    ensures { λ r. ⌜ r ≡ size 19 n ⌝ }
-{
-    let mut c = least;
+    let mut next: u64 = 10;
+    let mut c: usize = 0;
     while c < 18 {
-        if n < power(c + 1) {
+        if n < next {
             return c + 1;
         }
+        next *= 10;
         c += 1;
     }
-    if n / power(18) < 10 {
-        return 19;
-    }
-    20
+    if n < next { 19 } else { 20 }
 }
 
 // The digits of n from a place of the buffer on; the place behind them. The last digit is stored first, so that each

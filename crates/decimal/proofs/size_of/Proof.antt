@@ -1,93 +1,68 @@
--- `size_of` compares with one power after the other.
+-- `size_of` compares with one power after the other. The loop's invariant: n reaches 10^c, and `next` is ten times that. The measure is what is left
+-- of eighteen steps.
+use mathlib.Core.Path.{_≡_}
+use Prim.Native.Nat.{ℕ, _+_, _-_, _^_, _≤_, max}
 use native.Mathlib.Omega.{arith}
-use borrow.Author.Needs.{needs}
-use Rattle.decimal.proofs.Numerals.{size-low}
+use Rattle.decimal.proofs.Powers.{next-fits, next-is}
+use Rattle.decimal.proofs.Numerals.{size-low, size-last}
 use Rattle.decimal.proofs.size_of.Statement.{statement}
 use Rattle.decimal.proofs.size_of.Tie as tie
 
-power-requires : tie.Need-power-requires
-power-requires c κs = search needs
+abbrev Inv-loop : tie.InvT-loop
+Inv-loop n next₀ c₀ next c = (c ≤ 18) × (next ≡ 10 ^ (c + 1)) × (10 ^ c ≤ max n 1)
 
-returns : tie.Need-returns
-returns c = size-low (c .before .before .args .n) 0 (omega arith) (omega arith) (omega (arith, c .before .power .ensures))
+abbrev μ-loop : tie.MeasureT-loop
+μ-loop n next₀ c₀ next c = 18 - c
 
-power-requires-2 : tie.Need-power-requires-2
-power-requires-2 c κs = search needs
+-- behind the last step
+last : (c next n : ℕ) → c ≤ 18 → 18 ≤ c → next ≡ 10 ^ (c + 1) → 10 ^ c ≤ max n 1 → (next ≡ 10 ^ 19) × (10 ^ 18 ≤ max n 1)
+last c next n h k p q = let e : c ≡ 18 = omega arith in (rw e at p, rw e at q)
 
-returns-2 : tie.Need-returns-2
+loop-holds : tie.Need-loop-holds Inv-loop μ-loop
+loop-holds c = omega arith
+
+add-result : tie.Need-add-result Inv-loop μ-loop
+add-result c = omega arith
+
+returns : tie.Need-returns Inv-loop μ-loop
+returns c = let l = c .before .before .loop in size-low _ (l .c) (omega arith) (l .inv .2) (omega (arith, l .inv .1))
+
+mul-next : tie.Need-mul-next Inv-loop μ-loop
+mul-next c = let l = c .before .before .loop in next-fits (l .c) (l .next) (c .before .loop-test .taken) (l .inv .1)
+
+add-c : tie.Need-add-c Inv-loop μ-loop
+add-c c = omega arith
+
+loop-less : tie.Need-loop-less Inv-loop μ-loop
+loop-less c = omega arith
+
+loop-again : tie.Need-loop-again Inv-loop μ-loop
+loop-again c = let l = c .before .before .loop in (omega arith, next-is (l .c) (l .next) (l .inv .1), omega (arith, l .inv .1))
+
+returns-2 : tie.Need-returns-2 Inv-loop μ-loop
 returns-2 c =
-    let s : tie.Start = search needs in
-    let p : tie.After-power = search needs in
-    size-low (s .args .n) 1 (omega arith) (omega (arith, p .power .ensures)) (omega (arith, c .before .power2 .ensures))
+    let l = c .before .before .loop in
+    let e = last (l .c) (l .next) _ (l .inv .0) (c .before .loop-test .left) (l .inv .1) (l .inv .2) in
+    size-low _ 18 (omega arith) (e .1) (omega (arith, e .0, c .if2 .taken))
 
-power-requires-3 : tie.Need-power-requires-3
-power-requires-3 c κs = search needs
-
-returns-3 : tie.Need-returns-3
+returns-3 : tie.Need-returns-3 Inv-loop μ-loop
 returns-3 c =
-    let s : tie.Start = search needs in
-    let p : tie.After-power2 = search needs in
-    size-low (s .args .n) 2 (omega arith) (omega (arith, p .power2 .ensures)) (omega (arith, c .before .power3 .ensures))
-
-power-requires-4 : tie.Need-power-requires-4
-power-requires-4 c κs = search needs
-
-returns-4 : tie.Need-returns-4
-returns-4 c =
-    let s : tie.Start = search needs in
-    let p : tie.After-power3 = search needs in
-    size-low (s .args .n) 3 (omega arith) (omega (arith, p .power3 .ensures)) (omega (arith, c .before .power4 .ensures))
-
-power-requires-5 : tie.Need-power-requires-5
-power-requires-5 c κs = search needs
-
-returns-5 : tie.Need-returns-5
-returns-5 c =
-    let s : tie.Start = search needs in
-    let p : tie.After-power4 = search needs in
-    size-low (s .args .n) 4 (omega arith) (omega (arith, p .power4 .ensures)) (omega (arith, c .before .power5 .ensures))
-
-power-requires-6 : tie.Need-power-requires-6
-power-requires-6 c κs = search needs
-
-returns-6 : tie.Need-returns-6
-returns-6 c =
-    let s : tie.Start = search needs in
-    let p : tie.After-power5 = search needs in
-    size-low (s .args .n) 5 (omega arith) (omega (arith, p .power5 .ensures)) (omega (arith, c .before .power6 .ensures))
-
-power-requires-7 : tie.Need-power-requires-7
-power-requires-7 c κs = search needs
-
-returns-7 : tie.Need-returns-7
-returns-7 c =
-    let s : tie.Start = search needs in
-    let p : tie.After-power6 = search needs in
-    size-low (s .args .n) 6 (omega arith) (omega (arith, p .power6 .ensures)) (omega (arith, c .before .power7 .ensures))
-
-size-from-requires : tie.Need-size-from-requires
-size-from-requires c κs = omega (arith, c .before .power7 .ensures)
-
-returns-8 : tie.Need-returns-8
-returns-8 c = search needs
+    let l = c .before .before .loop in
+    let e = last (l .c) (l .next) (c .before .before .before .args .n) (l .inv .0) (c .before .loop-test .left) (l .inv .1) (l .inv .2) in
+    size-last _ (omega (arith, e .0, c .if2 .left))
 
 pub size-of-spec : {M : Type 1} → statement M
 size-of-spec =
     tie.close
     (tie.spec
-    power-requires
+    Inv-loop
+    μ-loop
+    loop-holds
+    add-result
     returns
-    power-requires-2
+    mul-next
+    add-c
+    loop-less
+    loop-again
     returns-2
-    power-requires-3
-    returns-3
-    power-requires-4
-    returns-4
-    power-requires-5
-    returns-5
-    power-requires-6
-    returns-6
-    power-requires-7
-    returns-7
-    size-from-requires
-    returns-8)
+    returns-3)
