@@ -14,7 +14,7 @@
 #include <stdint.h>
 
 /* The version of this interface: another one where a declaration, a number or the order of cells is another, or one comes. */
-#define OVERLAY_VERSION 2
+#define OVERLAY_VERSION 3
 
 /* The largest plan: layers, rectangles, cells, and the bytes of its longest text, which is proved. So much is enough for every plan. */
 enum {
@@ -31,7 +31,7 @@ enum { OVERLAY_STACK_BYTES = 20480 };
 enum overlay_cause {
     OVERLAY_CAUSE_NONE = 0,
     OVERLAY_CAUSE_LAYERS = 1,       /* k is not 2 to 6 */
-    OVERLAY_CAUSE_SIZES = 2,        /* a size is above 512, or not 0 past k */
+    OVERLAY_CAUSE_SIZES = 2,        /* a size is above 512, or not 0 past k; more than 512 records are kept */
     OVERLAY_CAUSE_CELLS = 3,        /* the cells are not four for each rectangle */
     OVERLAY_CAUSE_RECT = 4,         /* a coordinate is out of range, left > right or bottom > top */
     OVERLAY_CAUSE_ORDER = 5,        /* the order is not the sweep order of the plan */
@@ -40,10 +40,12 @@ enum overlay_cause {
     OVERLAY_CAUSE_ORDER_LENGTH = 8, /* the order buffer has not one cell for each rectangle */
     OVERLAY_CAUSE_FORM = 9,         /* the text is not well formed */
     OVERLAY_CAUSE_COUNT = 10,       /* the text is well formed, but miscounted, or 1, 2 or 4 would apply */
-    OVERLAY_CAUSE_ROOM = 11,        /* the text is good, the cells are too few */
+    OVERLAY_CAUSE_ROOM = 11,        /* the text is good, or the records are, but the cells are too few */
     OVERLAY_CAUSE_TEXT_LENGTH = 12, /* the text is longer than the buffer */
     OVERLAY_CAUSE_INPUT = 13,       /* the report's input has more than 65,536 bytes */
-    OVERLAY_CAUSE_BOX = 14          /* the box has left > right, bottom > top or a coordinate out of range */
+    OVERLAY_CAUSE_BOX = 14,         /* the box has left > right, bottom > top or a coordinate out of range */
+    OVERLAY_CAUSE_RECORD = 20,      /* the corners are not four a record, or one is not finite, out of order or beyond a million when covered */
+    OVERLAY_CAUSE_STRIP = 21        /* a strip's stop is not finite, its lower one is above its upper one, or its kind is above 3 */
 };
 
 /* The cells of a cursor. The ended cursor is 1 and nine times 0. */
@@ -82,6 +84,24 @@ enum {
     OVERLAY_NEAR_GAP = 2,   /* its squared gap in square millimetres; 0 where it meets the box */
     OVERLAY_NEAR_CELLS = 3,
     OVERLAY_NEAREST_CELLS = 18
+};
+
+/* The kinds of a survey strip: which stops it has. They belong to it. */
+enum overlay_strip {
+    OVERLAY_STRIP_FREE = 0,
+    OVERLAY_STRIP_FROM = 1,   /* a lower stop */
+    OVERLAY_STRIP_TO = 2,     /* an upper stop */
+    OVERLAY_STRIP_BETWEEN = 3 /* both */
+};
+
+/* The cells of two strips: a kind for each axis, and two stops for each. A stop that a kind has not is not looked at. */
+enum { OVERLAY_STRIP_ACROSS = 0, OVERLAY_STRIP_UPWARD = 1, OVERLAY_STRIP_KINDS = 2 };
+enum {
+    OVERLAY_STRIP_LEFT = 0,   /* the lower stop across */
+    OVERLAY_STRIP_RIGHT = 1,  /* the upper stop across */
+    OVERLAY_STRIP_BOTTOM = 2, /* the lower stop upward */
+    OVERLAY_STRIP_TOP = 3,    /* the upper stop upward */
+    OVERLAY_STRIP_STOPS = 4
 };
 
 #ifdef __cplusplus
@@ -128,6 +148,12 @@ uint32_t overlay_read_text(const uint8_t *text, size_t text_length, int32_t *cel
 /* Writes the text of a plan. Its length is left in `size`, 0 after a refusal; bytes behind it keep what they held. Tells 1 to 4 and 12. */
 uint32_t overlay_write_text(uint32_t k, const uint32_t sizes[6], const int32_t *cells, size_t cells_length,
                             uint8_t *text, size_t text_length, size_t *size);
+
+/* Covers corner records, four corners each: left, bottom, right, top. Those whose extent meets both strips are kept, and the smallest whole rectangles
+ * that contain them are left in the first cells, four for each, in their order: a layer of a plan. How many there are is left in `kept`, 0 after a
+ * refusal; cells behind them keep what they held. Tells 21, 20, 2 and 11, in this order. */
+uint32_t overlay_cover_records(const uint32_t kinds[2], const double stops[4], const double *corners,
+                               size_t corners_length, int32_t *cells, size_t cells_length, size_t *kept);
 
 #ifdef __cplusplus
 }

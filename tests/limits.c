@@ -64,6 +64,18 @@ static uint32_t read_text(void)
     return overlay_read_text(text, text_length, cells, OVERLAY_MOST_CELLS, &k, sizes);
 }
 
+static uint32_t cover_records(void)
+{
+    static const uint32_t kinds[OVERLAY_STRIP_KINDS] = {OVERLAY_STRIP_BETWEEN, OVERLAY_STRIP_BETWEEN};
+    static const double stops[OVERLAY_STRIP_STOPS] = {-1, 1, -1, 1};
+    static double corners[4 * 1000];
+    static int32_t layer[4 * 512];
+    size_t kept;
+    for (int i = 0; i < 4 * 1000; i++)
+        corners[i] = i / 4 % 2 ? 0.5 : 2.5;
+    return overlay_cover_records(kinds, stops, corners, 4 * 1000, layer, 4 * 512, &kept) || kept != 500;
+}
+
 /* Each call with its name; those that fill a buffer come before those that take it. */
 static const struct {
     const char *name;
@@ -71,7 +83,7 @@ static const struct {
 } calls[] = {{"plan_cause", plan_cause}, {"make_order", make_order},     {"order_cause", order_cause},
              {"row", row},               {"nearest", nearest},           {"fresh_cursor", fresh_cursor},
              {"fetch_page", fetch_page}, {"run_all", run_all},           {"write_text", write_text},
-             {"read_text", read_text}};
+             {"read_text", read_text},   {"cover_records", cover_records}};
 enum { CALLS = sizeof calls / sizeof *calls };
 
 /* A stack of our own, and how much of it each call has used: all below the caller's frame is filled with a byte, and the lowest that is another one

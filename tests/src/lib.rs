@@ -2,7 +2,8 @@
 //!
 //! An overlay under test implements `overlay::Overlay` and is handed to `compare::compare` beside
 //! `reference::Reference`; its report is handed to `reports::compare_reports` beside
-//! `reference::report`. Both give their counts, or the first difference with the whole case.
+//! `reference::report`, and its call on survey records to `surveys::compare_surveys` beside
+//! `surveys::cover_records`. All give their counts, or the first difference with the whole case.
 
 pub mod call;
 pub mod compare;
@@ -12,4 +13,5 @@ pub mod overlay;
 pub mod reference;
 pub mod reports;
 pub mod seeds;
+pub mod surveys;
 pub mod wrong;

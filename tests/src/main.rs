@@ -4,6 +4,7 @@ use overlay_tests::compare::{compare, Tally};
 use overlay_tests::nearest::{compare_nearest, nearest, WRONG_NEAREST};
 use overlay_tests::reference::{report, Reference};
 use overlay_tests::reports::compare_reports;
+use overlay_tests::surveys::{compare_surveys, cover_records, wrong_surveys};
 use overlay_tests::wrong::{Wrong, REPORT_SLIPS, SLIPS};
 use std::process::exit;
 
@@ -45,11 +46,23 @@ fn catch_wrong_nearest() {
     }
 }
 
+/// Every wrong call on survey records must differ from the right one somewhere.
+fn catch_wrong_surveys() {
+    for (wrong, name) in wrong_surveys() {
+        match compare_surveys(&wrong, &cover_records) {
+            Err(found) => println!("wrong survey caught after {} cases: {name}", found.cases),
+            Ok(_) => stop(&format!("wrong survey not caught: {name}")),
+        }
+    }
+}
+
 /// The reference must agree with itself.
 fn compare_with_itself() -> Tally {
     let mut tally = compare(&Reference, &Reference).unwrap_or_else(|found| stop(&found.text));
     tally.add("reports", compare_reports(&report, &report).unwrap_or_else(|found| stop(&found.text)));
     tally.add("nearest", compare_nearest(&nearest, &nearest).unwrap_or_else(|found| stop(&found.text)));
+    let surveys = compare_surveys(&cover_records, &cover_records);
+    tally.add("surveys", surveys.unwrap_or_else(|found| stop(&found.text)));
     tally
 }
 
@@ -58,5 +71,6 @@ fn main() {
     catch_wrong_overlays();
     catch_wrong_reports();
     catch_wrong_nearest();
+    catch_wrong_surveys();
     print!("{}", compare_with_itself());
 }

@@ -23,6 +23,7 @@ fn parts(list: &str) -> impl Iterator<Item = &str> {
 /// A scalar of C in Rust's words.
 fn scalar(word: &str) -> &'static str {
     match word {
+        "double" => "f64",
         "int32_t" => "i32",
         "uint8_t" => "u8",
         "uint32_t" => "u32",
@@ -131,7 +132,7 @@ fn agree(header: &str, library: &str, wrapper: &str) -> bool {
 #[test]
 fn header_library_and_wrapper_agree() {
     let functions = in_header(HEADER);
-    assert_eq!(functions.len(), 10);
+    assert_eq!(functions.len(), 11);
     assert_eq!(functions, in_library(LIBRARY));
     assert_eq!(plain(&functions), in_wrapper(WRAPPER));
 }
@@ -155,6 +156,8 @@ fn every_change_is_noticed() {
         (" uint32_t budget,", ""),
         ("uint32_t budget,", "uint64_t budget,"),
         ("size_t *size", "uint32_t *size"),
+        ("const double *corners", "const uint64_t *corners"),
+        ("const double stops[4]", "const double stops[2]"),
         ("uint32_t *k, uint32_t sizes[6]", "uint32_t sizes[6], uint32_t *k"),
     ];
     let library = [
@@ -165,6 +168,7 @@ fn every_change_is_noticed() {
         ("answer: &mut [u64; 4]", "answer: &mut [u64; 3]"),
         ("    budget: u32,\n", ""),
         ("k: &mut u32", "k: u32"),
+        ("corners: &[f64]", "corners: &[u64]"),
         ("#[no_mangle]\npub extern \"C\" fn overlay_row(", "fn overlay_row("),
     ];
     let wrapper = [
@@ -174,6 +178,7 @@ fn every_change_is_noticed() {
         ("        budget: u32,\n", ""),
         ("budget: u32", "budget: u64"),
         ("size: *mut usize", "size: *mut u32"),
+        ("stops: *const f64", "stops: *const u64"),
         (") -> u32;", ") -> u64;"),
     ];
     for (old, new) in header {

@@ -1,5 +1,7 @@
 // The calls of the plan overlay for other languages. A slice is a pointer and a length, fixed cells are a pointer, and each call returns the number of
 // a cause, 0 for none. The cells of cursors and answers are laid out by crate `cells` (specs/Cells.antt); include/overlay.h declares the calls for C.
+use cells::covering_kept;
+use cells::covering_number;
 use cells::cursor_after;
 use cells::cursor_cells;
 use cells::cursor_in;
@@ -10,6 +12,7 @@ use cells::row_number;
 use cells::run_cells;
 use cells::run_number;
 use cells::stop_number;
+use cells::strip_in;
 use cells::written_length;
 use cells::written_number;
 use nearest::near_cells;
@@ -21,6 +24,7 @@ use plan::Shape;
 use plan::plan_cause;
 use plan::rect_at;
 use rows::row;
+use survey::cover_records;
 use sweep::make_order;
 use sweep::order_cause;
 use text::read;
@@ -32,9 +36,10 @@ ghost use Rattle.nearest.specs.Nearest.{nearestCall, nearCells};
 ghost use Rattle.sweep.specs.Sweep.{orderCause, makeCause, orderAfter};
 ghost use Rattle.rows.specs.RowCall.{rowCall, rowValues};
 ghost use Rattle.paging.specs.Calls.{freshCall, pageCause, pageCall, pageTable, runCall, runTable, runValues};
+ghost use Rattle.survey.specs.CoverCall.{coverCause, coverAnswer, coverValues, coverAfter};
 ghost use Rattle.text.specs.Reader.{readCause, readAnswer, cellsAfter};
 ghost use Rattle.text.specs.Writer.{writeCause, writeLength, bufferAfter};
-ghost use Rattle.cells.specs.Cells.{shapeOf, cursorCells, cursorIn, pageCells, cursorAfter, runCells, rowCells};
+ghost use Rattle.cells.specs.Cells.{shapeOf, cursorCells, cursorIn, pageCells, cursorAfter, runCells, rowCells, acrossIn, upwardIn};
 
 // The first of the causes 1 to 4 that applies to a plan.
 #[no_mangle]
@@ -208,4 +213,27 @@ pub extern "C" fn overlay_write_text(
     let writing = write(Shape { k, sizes: six }, cells, text);
     *size = written_length(writing);
     written_number(writing)
+}
+
+// Puts the covers of the kept records into the first cells; how many there are is left in `kept`. Kinds (0 free, 1 lower stop, 2 upper stop, 3 both) and stops (lower, upper)
+// are those of the strip across, which bounds left and right, and then of the strip upward; a kind above 3 is 21. After a refusal `kept` is 0.
+#[no_mangle]
+pub extern "C" fn overlay_cover_records(
+    kinds: &[u32; 2],
+    stops: &[f64; 4],
+    corners: &[f64],
+    cells: &mut [i32],
+    kept: &mut usize,
+) -> u32
+    ensures number { λ r. ⌜ r ≡ coverCause (acrossIn (now (kinds .entry)) (now (stops .entry))) (upwardIn (now (kinds .entry)) (now (stops .entry))) (now (corners .entry)) (length (now (cells .entry))) ⌝ }
+    ensures kept { λ _. ⌜ now (kept .exit) ≡ coverValues (coverAnswer (acrossIn (now (kinds .entry)) (now (stops .entry))) (upwardIn (now (kinds .entry)) (now (stops .entry))) (now (corners .entry)) (length (now (cells .entry)))) .kept ⌝ }
+    ensures cells { λ _. ⌜ now (cells .exit) ≡ coverAfter (acrossIn (now (kinds .entry)) (now (stops .entry))) (upwardIn (now (kinds .entry)) (now (stops .entry))) (now (corners .entry)) (now (cells .entry)) ⌝ }
+{
+    let two = *kinds;
+    let four = *stops;
+    let across = strip_in(two[0], four[0], four[1]);
+    let upward = strip_in(two[1], four[2], four[3]);
+    let answer = cover_records(across, upward, corners, cells);
+    *kept = covering_kept(answer);
+    covering_number(answer)
 }

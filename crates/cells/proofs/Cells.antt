@@ -5,6 +5,7 @@ use mathlib.Core.Bool.{Bool, true, false, cond}
 use Prim.Native.Nat.{ℕ, zero, suc, _≤_, _<_}
 use lib.Dec.{eqb}
 use lib.ListN.{getD}
+use lib.Ieee.{Float, binary64, ofBits}
 use mir.Val.{boolByte}
 use borrow.Author.Tests.{le-leb, lt-leb}
 use Rattle.lists.proofs.Tests.{as-number}
@@ -12,12 +13,13 @@ use Rattle.plan.specs.Causes.{onCause}
 use Rattle.totals.specs.declared.Total.{Total}
 use Rattle.totals.specs.Totals.{valueOf}
 use Rattle.totals.proofs.Totals.{value-total}
+use Rattle.survey.specs.declared.Strip.the-variants.{Between}
 use Rattle.paging.specs.declared.Run.{Run}
 use Rattle.paging.specs.declared.Run.the-variants.{Refused, Done}
 use Rattle.paging.specs.declared.Cursor.{Cursor}
 use Rattle.paging.specs.declared.Page.{Page}
 use Rattle.paging.specs.Calls.{stopNumber, runValues}
-use Rattle.cells.specs.Cells.{cursorCells, noCursor, cursorIn, cursorAfter, runCells}
+use Rattle.cells.specs.Cells.{cursorCells, noCursor, cursorIn, cursorAfter, runCells, stripIn}
 
 -- a cursor's cells as they are made
 pub made : (c : Cursor) → boolByte (c .ended) ∷ c .layer ∷ c .place ∷ c .filled ∷ getD (c .chosen) 0 0 ∷ getD (c .chosen) 1 0 ∷ getD (c .chosen) 2 0 ∷ getD (c .chosen) 3 0 ∷ getD (c .chosen) 4 0 ∷ c .next ∷ [] ≡ cursorCells c
@@ -56,3 +58,12 @@ run-none e = ap (λ (n : ℕ). 0 ∷ 0 ∷ n ∷ []) (sym (value-total 0)) ∙ a
 -- an acceptance those of its values
 pub run-some : {r : Run} {rows probes : ℕ} {area : Total} (v : ℕ) → v ≡ valueOf area → Done rows probes area ≡ r → rows ∷ probes ∷ v ∷ [] ≡ runCells (runValues r)
 run-some {rows = rows} {probes = probes} v q e = ap (λ (n : ℕ). rows ∷ probes ∷ n ∷ []) q ∙ ap (λ (a : Run). runCells (runValues a)) e
+
+-- a kind above 3 is no strip
+pub strip-none : (kind : ℕ) (lower upper : Float) → (kind ≡ 0 → ⊥) → (kind ≡ 1 → ⊥) → (kind ≡ 2 → ⊥) → (kind ≡ 3 → ⊥) → Between (ofBits binary64 0x3ff0_0000_0000_0000) (ofBits binary64 0) ≡ stripIn kind lower upper
+unfolding ofBits
+strip-none zero lower upper a b c d = absurd (a refl)
+strip-none (suc zero) lower upper a b c d = absurd (b refl)
+strip-none (suc (suc zero)) lower upper a b c d = absurd (c refl)
+strip-none (suc (suc (suc zero))) lower upper a b c d = absurd (d refl)
+strip-none (suc (suc (suc (suc kind)))) lower upper a b c d = refl

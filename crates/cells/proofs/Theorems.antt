@@ -8,6 +8,7 @@ use Prim.Native.Nat.{ℕ, zero, suc, _-_, _<_}
 use native.Mathlib.Omega.{arith}
 use lib.IntN.{ℤ}
 use lib.ListN.{length, take, getD}
+use lib.Ieee.{Float, le}
 use Rattle.lists.proofs.Padding.{padded-long}
 use Rattle.geometry.specs.declared.Rect.{Rect}
 use Rattle.plan.specs.declared.Shape.{Shape}
@@ -28,8 +29,10 @@ use Rattle.paging.specs.Theorems.{Call, served, Chain, PagingHolds}
 use Rattle.paging.specs.Theorems as Paging
 use Rattle.paging.proofs.Causes.{stop-none}
 use Rattle.paging.proofs.Theorems.{demand3}
-use Rattle.cells.specs.Cells.{cursorCells, noCursor, cursorIn, stopCode, cursorAfter}
-use Rattle.cells.specs.Theorems.{CellChain, end, refused, accepted, CursorsInCells}
+use Rattle.survey.specs.Theorems.{SoundStops}
+use Rattle.survey.proofs.Theorems.{surveys}
+use Rattle.cells.specs.Cells.{cursorCells, noCursor, cursorIn, stopCode, cursorAfter, stripIn}
+use Rattle.cells.specs.Theorems.{CellChain, end, refused, accepted, CursorsInCells, StripsInCells}
 use Rattle.cells.proofs.Cells.{in-none}
 
 -- five cells, read one by one
@@ -112,3 +115,21 @@ stops (Refused cause) = ((λ e. absurd (omega arith), λ e. cc), (λ e. absurd (
 
 pub cursors-in-cells : CursorsInCells
 cursors-in-cells = record { paging = cell-paging; stops = stops; refused = none-refused }
+
+-- ---- strips
+-- a kind above 3 has no good stops
+no-stops : (kind : ℕ) (lower upper : Float) → 3 < kind → SoundStops (stripIn kind lower upper) → ⊥
+unfolding le
+no-stops zero lower upper h s = omega arith
+no-stops (suc zero) lower upper h s = omega arith
+no-stops (suc (suc zero)) lower upper h s = omega arith
+no-stops (suc (suc (suc zero))) lower upper h s = omega arith
+no-stops (suc (suc (suc (suc kind)))) lower upper h s = s .2
+
+pub strips-in-cells : StripsInCells
+strips-in-cells = record {
+  kinds = λ lower upper. (refl, refl, refl, refl);
+  stops = λ j k left right bottom top. (refl, refl);
+  across = λ kind lower upper upward corners room h. surveys .causes (stripIn kind lower upper) upward corners room .twenty-one .1 (λ s. no-stops kind lower upper h (s .0));
+  upward = λ kind lower upper across corners room h. surveys .causes across (stripIn kind lower upper) corners room .twenty-one .1 (λ s. no-stops kind lower upper h (s .1));
+}

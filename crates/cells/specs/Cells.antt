@@ -1,13 +1,18 @@
--- Cursors and answers as cells: how the C interface lays them out. The number of a cause is returned; the cells of a refused answer are 0, a refused fresh cursor says Ended, and a refused page leaves the cursor.
+-- Cursors, answers and strips as cells: how the C interface lays them out. The number of a cause is returned; the cells of a refused answer are 0, a refused fresh cursor says Ended, and a refused page leaves the cursor.
 use mathlib.Core.List.{List, [], _∷_}
 use mathlib.Core.Bool.{true, cond}
-use Prim.Native.Nat.{ℕ}
+use Prim.Native.Nat.{ℕ, zero, suc}
 use lib.Dec.{eqb, leb}
 use lib.ListN.{getD}
+use lib.IntN.{pos}
+use lib.Ieee.{Float, nan}
 use Rattle.totals.specs.Totals.{valueOf}
 use Rattle.plan.specs.declared.Shape.{Shape}
 use Rattle.plan.specs.Causes.{onCause}
 use Rattle.rows.specs.RowCall.{RowValues}
+use Rattle.floats.specs.Values.{exact}
+use Rattle.survey.specs.declared.Strip.{Strip}
+use Rattle.survey.specs.declared.Strip.the-variants.{Free, From, To, Between}
 use Rattle.paging.specs.declared.Cursor.{Cursor}
 use Rattle.paging.specs.declared.Page.{Page}
 use Rattle.search.specs.declared.Stop.{Stop}
@@ -53,3 +58,22 @@ runCells v = v .rows ∷ v .probes ∷ valueOf (v .area) ∷ []
 -- ---- rows: the guard's layer, area
 abbrev pub rowCells : RowValues → List ℕ
 rowCells v = v .layer ∷ v .area ∷ []
+
+-- ---- strips: a kind (0 free, 1 a lower stop, 2 an upper stop, 3 both) and two stops, of which those that the kind has not are not looked at
+-- stands for a kind above 3: its lower stop is above its upper one, so 21 refuses it
+abbrev pub noStrip : Strip
+noStrip = Between (exact (pos 1)) (exact (pos 0))
+
+abbrev pub stripIn : ℕ → Float → Float → Strip
+stripIn zero lower upper = Free
+stripIn (suc zero) lower upper = From lower
+stripIn (suc (suc zero)) lower upper = To upper
+stripIn (suc (suc (suc zero))) lower upper = Between lower upper
+stripIn (suc (suc (suc (suc kind)))) lower upper = noStrip
+
+-- the strips of both axes, in a kind and two stops for each
+abbrev pub acrossIn : List ℕ → List Float → Strip
+acrossIn kinds stops = stripIn (getD kinds 0 0) (getD stops 0 nan) (getD stops 1 nan)
+
+abbrev pub upwardIn : List ℕ → List Float → Strip
+upwardIn kinds stops = stripIn (getD kinds 1 0) (getD stops 2 nan) (getD stops 3 nan)

@@ -1,9 +1,11 @@
-// Cursors and the answers of calls as numbers and cells of fixed length, for languages without enums. The layout is in specs/Cells.antt.
+// Cursors, strips and the answers of calls as numbers and cells of fixed length, for languages without enums. The layout is in specs/Cells.antt.
 use paging::Cursor;
 use paging::Page;
 use paging::Run;
 use rows::RowAnswer;
 use search::Stop;
+use survey::Covering;
+use survey::Strip;
 use sweep::OrderAnswer;
 use text::Writing;
 use totals::value;
@@ -12,7 +14,8 @@ ghost use Rattle.sweep.specs.Sweep.{orderNumber};
 ghost use Rattle.rows.specs.RowCall.{rowValues};
 ghost use Rattle.paging.specs.Calls.{stopNumber, runValues};
 ghost use Rattle.text.specs.Writer.{numberOf, lengthOf};
-ghost use Rattle.cells.specs.Cells.{cursorCells, cursorIn, stopCode, pageCells, cursorAfter, runCells, rowCells};
+ghost use Rattle.survey.specs.CoverCall.{coverValues};
+ghost use Rattle.cells.specs.Cells.{cursorCells, cursorIn, stopCode, pageCells, cursorAfter, runCells, rowCells, stripIn};
 
 // The number of a writer's answer.
 pub fn written_number(writing: Writing) -> u32
@@ -177,5 +180,38 @@ pub fn run_cells(run: Run) -> [u64; 3]
     match run {
         Run::Refused(_) => [0, 0, 0],
         Run::Done(rows, probes, area) => [rows as u64, probes, value(area)],
+    }
+}
+
+// The strip of a kind and two stops; of a kind above 3, one that is refused.
+pub fn strip_in(kind: u32, lower: f64, upper: f64) -> Strip
+    ensures { λ r. ⌜ r ≡ stripIn kind lower upper ⌝ }
+{
+    match kind {
+        0 => Strip::Free,
+        1 => Strip::From(lower),
+        2 => Strip::To(upper),
+        3 => Strip::Between(lower, upper),
+        _ => Strip::Between(1.0, 0.0),
+    }
+}
+
+// The number of a covering's answer.
+pub fn covering_number(answer: Covering) -> u32
+    ensures { λ r. ⌜ r ≡ coverValues answer .number ⌝ }
+{
+    match answer {
+        Covering::Kept(_) => 0,
+        Covering::Refused(cause) => cause,
+    }
+}
+
+// How many records a covering kept, 0 for a refusal.
+pub fn covering_kept(answer: Covering) -> usize
+    ensures { λ r. ⌜ r ≡ coverValues answer .kept ⌝ }
+{
+    match answer {
+        Covering::Kept(n) => n,
+        Covering::Refused(_) => 0,
     }
 }

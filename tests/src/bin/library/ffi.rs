@@ -2,6 +2,7 @@
 
 use overlay_tests::nearest::{Near, NearestTold};
 use overlay_tests::overlay::{Overlay, Page, Reading, RowTold, Run, Shape, Stop, Ticket, Writing};
+use overlay_tests::surveys::{Covered, Survey};
 
 #[link(name = "capi", kind = "static")]
 extern "C" {
@@ -88,6 +89,15 @@ extern "C" {
         text: *mut u8,
         text_length: usize,
         size: *mut usize,
+    ) -> u32;
+    fn overlay_cover_records(
+        kinds: *const u32,
+        stops: *const f64,
+        corners: *const f64,
+        corners_length: usize,
+        cells: *mut i32,
+        cells_length: usize,
+        kept: *mut usize,
     ) -> u32;
 }
 
@@ -190,6 +200,24 @@ pub fn fetch_page(
         )
     };
     (number, answer)
+}
+
+/// Puts the covers of the kept records of a survey into the cells.
+pub fn cover_records(survey: &Survey, cells: &mut [i32]) -> Covered {
+    let mut kept = UNWRITTEN as usize;
+    // SAFETY: every pointer comes from a reference, with its length; those written to are exclusive.
+    let number = unsafe {
+        overlay_cover_records(
+            survey.kinds.as_ptr(),
+            survey.stops.as_ptr(),
+            survey.corners.as_ptr(),
+            survey.corners.len(),
+            cells.as_mut_ptr(),
+            cells.len(),
+            &mut kept,
+        )
+    };
+    Covered { number, kept }
 }
 
 /// The library under test.

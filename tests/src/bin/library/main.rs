@@ -5,10 +5,11 @@ mod ffi;
 mod report;
 
 use extras::compare_extras;
-use ffi::Library;
+use ffi::{cover_records, Library};
 use overlay_tests::compare::compare;
 use overlay_tests::nearest::{compare_nearest, nearest};
 use overlay_tests::reference::Reference;
+use overlay_tests::surveys::{self, compare_surveys};
 use report::compare_program;
 use std::process::exit;
 
@@ -25,6 +26,8 @@ fn main() {
     tally.add("C interface alone", extras);
     let near = compare_nearest(&ffi::nearest, &nearest).unwrap_or_else(|found| stop(&found.text, tally.cases()));
     tally.add("nearest", near);
+    let surveys = compare_surveys(&cover_records, &surveys::cover_records);
+    tally.add("surveys", surveys.unwrap_or_else(|found| stop(&found.text, tally.cases())));
     let reports = compare_program().unwrap_or_else(|found| stop(&found.text, tally.cases()));
     tally.add("report program", reports);
     print!("{tally}");

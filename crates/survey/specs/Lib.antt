@@ -1,0 +1,5 @@
+pub mod Strips
+pub mod Records
+pub mod CoverCall
+pub mod Theorems
+pub mod Puts
