@@ -14,7 +14,7 @@
 #include <stdint.h>
 
 /* The version of this interface: another one where a declaration, a number or the order of cells is another, or one comes. */
-#define OVERLAY_VERSION 3
+#define OVERLAY_VERSION 4
 
 /* The largest plan: layers, rectangles, cells, and the bytes of its longest text, which is proved. So much is enough for every plan. */
 enum {
@@ -45,7 +45,8 @@ enum overlay_cause {
     OVERLAY_CAUSE_INPUT = 13,       /* the report's input has more than 65,536 bytes */
     OVERLAY_CAUSE_BOX = 14,         /* the box has left > right, bottom > top or a coordinate out of range */
     OVERLAY_CAUSE_RECORD = 20,      /* the corners are not four a record, or one is not finite, out of order or beyond a million when covered */
-    OVERLAY_CAUSE_STRIP = 21        /* a strip's stop is not finite, its lower one is above its upper one, or its kind is above 3 */
+    OVERLAY_CAUSE_STRIP = 21,       /* a strip's stop is not finite, its lower one is above its upper one, or its kind is above 3 */
+    OVERLAY_CAUSE_PLACES = 23       /* there are not k places, or a place is not in its layer */
 };
 
 /* The cells of a cursor. The ended cursor is 1 and nine times 0. */
@@ -76,6 +77,9 @@ enum { OVERLAY_RUN_ROWS = 0, OVERLAY_RUN_PROBES = 1, OVERLAY_RUN_AREA = 2, OVERL
 
 /* The cells of a row's answer: the guard's layer, from 1, and the area in square millimetres. */
 enum { OVERLAY_ROW_LAYER = 0, OVERLAY_ROW_AREA = 1, OVERLAY_ROW_CELLS = 2 };
+
+/* The cells of a pair's answer: the lower layer and the higher, from 1. */
+enum { OVERLAY_PAIR_LOWER = 0, OVERLAY_PAIR_HIGHER = 1, OVERLAY_PAIR_CELLS = 2 };
 
 /* The cells of what lies nearest: three for each of six layers, the first layer first. Where a layer is empty or past k, all three are 0. */
 enum {
@@ -126,6 +130,11 @@ uint32_t overlay_row(uint32_t k, const uint32_t sizes[6], const int32_t *cells, 
 /* What lies nearest to a box (left, bottom, right, top) in each layer. Tells 1 to 4 and 14. */
 uint32_t overlay_nearest(uint32_t k, const uint32_t sizes[6], const int32_t *cells, size_t cells_length,
                          const int32_t around[4], uint64_t answer[18]);
+
+/* The first pair of layers, by its lower and then its higher, whose rectangles at these places do not meet: both layers 0 where all of them share a
+ * point, which is no refusal. Tells 1 to 4 and 23. */
+uint32_t overlay_apart_pair(uint32_t k, const uint32_t sizes[6], const int32_t *cells, size_t cells_length,
+                            const uint32_t *places, size_t places_length, uint64_t answer[2]);
 
 /* The cursor of the first probe; the ended cursor where there is none, and after a refusal. Tells 1 to 5. */
 uint32_t overlay_fresh_cursor(uint32_t k, const uint32_t sizes[6], const int32_t *cells, size_t cells_length,

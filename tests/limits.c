@@ -35,6 +35,11 @@ static uint32_t nearest(void)
     uint64_t answer[OVERLAY_NEAREST_CELLS];
     return overlay_nearest(k, sizes, cells, OVERLAY_MOST_CELLS, around, answer);
 }
+static uint32_t apart_pair(void)
+{
+    uint64_t answer[OVERLAY_PAIR_CELLS];
+    return overlay_apart_pair(k, sizes, cells, OVERLAY_MOST_CELLS, table, k, answer);
+}
 static uint32_t fresh_cursor(void)
 {
     return overlay_fresh_cursor(k, sizes, cells, OVERLAY_MOST_CELLS, order, OVERLAY_MOST_RECTS, cursor);
@@ -81,9 +86,9 @@ static const struct {
     const char *name;
     uint32_t (*call)(void);
 } calls[] = {{"plan_cause", plan_cause}, {"make_order", make_order},     {"order_cause", order_cause},
-             {"row", row},               {"nearest", nearest},           {"fresh_cursor", fresh_cursor},
-             {"fetch_page", fetch_page}, {"run_all", run_all},           {"write_text", write_text},
-             {"read_text", read_text},   {"cover_records", cover_records}};
+             {"row", row},               {"nearest", nearest},           {"apart_pair", apart_pair},
+             {"fresh_cursor", fresh_cursor}, {"fetch_page", fetch_page}, {"run_all", run_all},
+             {"write_text", write_text}, {"read_text", read_text},       {"cover_records", cover_records}};
 enum { CALLS = sizeof calls / sizeof *calls };
 
 /* A stack of our own, and how much of it each call has used: all below the caller's frame is filled with a byte, and the lowest that is another one

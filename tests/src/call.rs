@@ -1,6 +1,6 @@
 //! One call with all that is lent to it, put to an overlay, compared and shown.
 
-use crate::overlay::{Overlay, Page, Reading, RowTold, Run, Shape, Ticket, Writing};
+use crate::overlay::{Overlay, Page, PairTold, Reading, RowTold, Run, Shape, Ticket, Writing};
 use std::fmt::Write;
 use std::panic::{catch_unwind, AssertUnwindSafe};
 
@@ -16,6 +16,7 @@ pub struct Plan {
 pub enum Call {
     MakeOrder { plan: Plan, order: Vec<u32> },
     Row { plan: Plan, row: Vec<u32> },
+    Pair { plan: Plan, places: Vec<u32> },
     Fresh { plan: Plan, order: Vec<u32> },
     Page { plan: Plan, order: Vec<u32>, ticket: Ticket, budget: u32, table: Vec<u32> },
     Run { plan: Plan, order: Vec<u32>, table: Vec<u32> },
@@ -28,6 +29,7 @@ pub enum Call {
 pub enum Answer {
     Number(u32),
     Row(RowTold),
+    Pair(PairTold),
     Fresh(u32, Ticket),
     Page(Page),
     Run(Run),
@@ -61,6 +63,7 @@ fn put(call: &mut Call, to: &dyn Overlay) -> Answer {
     match call {
         Call::MakeOrder { plan, order } => Answer::Number(to.make_order(&plan.shape, &plan.cells, order)),
         Call::Row { plan, row } => Answer::Row(to.row(&plan.shape, &plan.cells, row)),
+        Call::Pair { plan, places } => Answer::Pair(to.pair(&plan.shape, &plan.cells, places)),
         Call::Fresh { plan, order } => {
             let (number, ticket) = to.fresh(&plan.shape, &plan.cells, order);
             Answer::Fresh(number, ticket)
@@ -107,6 +110,10 @@ fn show_call(text: &mut String, call: &Call) -> std::fmt::Result {
             writeln!(text, "row, cells {row:?}")?;
             show_plan(text, plan)
         }
+        Call::Pair { plan, places } => {
+            writeln!(text, "pair, places {places:?}")?;
+            show_plan(text, plan)
+        }
         Call::Fresh { plan, order } => {
             writeln!(text, "fresh, order {order:?}")?;
             show_plan(text, plan)
@@ -150,6 +157,7 @@ fn lent(call: &Call) -> Vec<(&'static str, Vec<i64>)> {
             vec![("plan", signed(&plan.cells)), ("order", plain(order))]
         }
         Call::Row { plan, row } => vec![("plan", signed(&plan.cells)), ("row", plain(row))],
+        Call::Pair { plan, places } => vec![("plan", signed(&plan.cells)), ("places", plain(places))],
         Call::Page { plan, order, table, .. } | Call::Run { plan, order, table } => {
             vec![("plan", signed(&plan.cells)), ("order", plain(order)), ("table", plain(table))]
         }

@@ -3,7 +3,7 @@
 use crate::call::{ask, bytes, cells_i32, cells_u32, same, show, Answer, Call, Plan};
 use crate::known::known_calls;
 use crate::overlay::{Overlay, Page, Stop, Ticket};
-use crate::reference::{count_rows, join, layers_of};
+use crate::reference::{count_rows, each_tuple, join, layers_of, pairs};
 use crate::seeds::{
     equal_plan, length, order, other_orders, plan_d, plan_from, shape_of, spell, text, tickets, Seeds, STYLES,
 };
@@ -11,6 +11,9 @@ use std::fmt;
 
 /// How many rounds of small plans are compared.
 const ROUNDS: u64 = 1000;
+
+/// A plan of up to so many combinations is asked for the pair of each.
+const MOST_COMBINATIONS: u32 = 256;
 
 /// Where the seeds start.
 const SEED: u64 = 0x2545_F491_4F6C_DD1D;
@@ -105,6 +108,11 @@ impl Bench<'_> {
         self.ask(kind, Call::Row { plan: plan.clone(), row: row.to_vec() }).map(drop)
     }
 
+    /// One pair call.
+    fn ask_pair(&mut self, kind: &'static str, plan: &Plan, places: &[u32]) -> Outcome {
+        self.ask(kind, Call::Pair { plan: plan.clone(), places: places.to_vec() }).map(drop)
+    }
+
     /// One fresh-ticket call, with its ticket.
     fn ask_fresh(&mut self, kind: &'static str, plan: &Plan, order: &[u32]) -> Result<Ticket, Difference> {
         match self.ask(kind, Call::Fresh { plan: plan.clone(), order: order.to_vec() })? {
@@ -165,6 +173,7 @@ impl Bench<'_> {
         self.order_maker(&plan)?;
         self.orders(&plan)?;
         self.row_calls(&plan)?;
+        self.pair_calls(&plan)?;
         self.paging(&plan)?;
         self.tickets(&plan)?;
         self.whole_runs(&plan)?;
@@ -232,6 +241,40 @@ impl Bench<'_> {
         let mut row = self.tuple(plan, 0);
         row[self.seeds.below(k as u64) as usize] = self.seeds.pick(&[512, 1 << 30, 1 << 31, u32::MAX]);
         self.ask_row("row calls", plan, &row)
+    }
+
+    /// Every combination of a small plan and some of a larger one, places outside, and lengths other than k.
+    fn pair_calls(&mut self, plan: &Plan) -> Outcome {
+        let (kind, k) = ("pair calls", plan.shape.k as usize);
+        let sizes = &plan.shape.sizes[..k];
+        let mut tuples = Vec::new();
+        if sizes.iter().product::<u32>() <= MOST_COMBINATIONS {
+            let layers = layers_of(&plan.shape, &plan.cells);
+            each_tuple(&layers, &mut Vec::new(), &mut |places| tuples.push(places.to_vec()));
+        } else {
+            tuples.extend((0..64).map(|_| self.tuple(plan, 0)));
+        }
+        for places in &tuples {
+            self.ask_pair(kind, plan, places)?;
+        }
+        let good = tuples.first().cloned().unwrap_or_else(|| vec![0; k]);
+        for layer in 0..k {
+            for place in [sizes[layer], sizes[layer] + 1, 512, 1 << 31, u32::MAX] {
+                let mut places = good.clone();
+                places[layer] = place;
+                self.ask_pair(kind, plan, &places)?;
+            }
+        }
+        for length in (0..=8).filter(|&length| length != k) {
+            let mut places = good.clone();
+            places.resize(length, 0);
+            self.ask_pair(kind, plan, &places)?;
+        }
+        for _ in 0..4 {
+            let places = self.tuple(plan, 2);
+            self.ask_pair(kind, plan, &places)?;
+        }
+        Ok(())
     }
 
     /// One place for each layer, up to so many past its last.
@@ -468,6 +511,8 @@ impl Bench<'_> {
         let room = if more { 0 } else { 2000 };
         self.ask_order(kind, plan, order.len())?;
         self.ask_row(kind, plan, &[0; 6][..plan.shape.k.min(6) as usize])?;
+        self.ask_pair(kind, plan, &[if more { 600 } else { 0 }; 6][..plan.shape.k.min(6) as usize])?;
+        self.ask_pair(kind, plan, &[0; 7])?;
         self.ask_fresh(kind, plan, &order)?;
         let budget = self.seeds.budget(20);
         self.ask_page(kind, plan, &order, &ticket, (budget, room))?;
@@ -693,6 +738,7 @@ impl Bench<'_> {
                 &spell("PLAN,2/LAYER,1/RECT,-1,0,23,4/LAYER,0/"),
                 &(0..=255).collect::<Vec<u8>>(),
             ),
+            12 => self.pair_box(),
             _ => Ok(()),
         }
     }
@@ -813,6 +859,44 @@ impl Bench<'_> {
     }
 }
 
+/// One rectangle a layer, all of which have a common point but for two pairs of layers, which may be one and the same: the first is parted along x,
+/// the second along y, by this gap; with no gap they touch.
+fn parted(k: usize, along: [(usize, usize); 2], flipped: [bool; 2], gap: i32) -> Plan {
+    let extent = |layer: usize, axis: usize| {
+        let (low, high) = ((-500, 0), (gap, 500 + gap));
+        let (first, second) = if flipped[axis] { (high, low) } else { (low, high) };
+        match layer {
+            _ if layer == along[axis].0 => first,
+            _ if layer == along[axis].1 => second,
+            _ => (-500, 500 + gap),
+        }
+    };
+    let rect = |layer: usize| {
+        let ((left, right), (bottom, top)) = (extent(layer, 0), extent(layer, 1));
+        [left, bottom, right, top]
+    };
+    Plan { shape: shape_of(&[1; 6][..k]), cells: (0..k).flat_map(rect).collect() }
+}
+
+impl Bench<'_> {
+    /// Every two pairs of layers as the only ones that do not meet, and the same two touching.
+    fn pair_box(&mut self) -> Outcome {
+        let flips = [[false, false], [false, true], [true, false], [true, true]];
+        for k in 2..=6 {
+            for along in
+                pairs(k).iter().flat_map(|&first| pairs(k).into_iter().map(move |second| [first, second]))
+            {
+                for gap in [0, 1, 2, 9, 999, 900_000] {
+                    for flipped in flips {
+                        self.ask_pair("pair calls", &parted(k, along, flipped, gap), &[0; 6][..k])?;
+                    }
+                }
+            }
+        }
+        Ok(())
+    }
+}
+
 // ---------------------------------------------------------------- large plans
 
 impl Bench<'_> {
@@ -854,7 +938,7 @@ impl Bench<'_> {
         self.ask_run("large plans", &dense, &order(&dense), 3_000_000)
     }
 
-    /// Order, row calls, whole runs, pages, tickets and texts on a large plan.
+    /// Order, row and pair calls, whole runs, pages, tickets and texts on a large plan.
     fn large_plan(&mut self, plan: &Plan) -> Outcome {
         let kind = "large plans";
         let (good, k) = (order(plan), plan.shape.k as usize);
@@ -865,6 +949,7 @@ impl Bench<'_> {
         for _ in 0..50 {
             let row = self.tuple(plan, 1);
             self.ask_row(kind, plan, &row)?;
+            self.ask_pair(kind, plan, &row)?;
         }
         let length = text(plan).len();
         self.ask_write(kind, plan, length)?;

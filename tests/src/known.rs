@@ -1,7 +1,7 @@
 //! Calls and reports whose answers the paper gives, in plain numbers and bytes: every overlay is held to them.
 
 use crate::call::{Answer, Call, Plan};
-use crate::overlay::{RowTold, Shape};
+use crate::overlay::{PairTold, RowTold, Shape};
 use crate::seeds::spell;
 
 /// The cells of plan D: two rectangles, and one that overlaps the first and touches the second.
@@ -50,7 +50,27 @@ fn row(name: &'static str, plan: Plan, places: &[u32], told: (u32, u32, u64)) ->
     KnownCall { name, call: call.clone(), answer: Answer::Row(RowTold { number, layer, area }), after: call }
 }
 
-/// Order maker and row call on plan D, and each of their causes by the smallest change of plan D that has it.
+/// A pair call: its number, the lower layer and the higher.
+fn pair(name: &'static str, plan: Plan, places: &[u32], told: (u32, u32, u32)) -> KnownCall {
+    let (number, lower, higher) = told;
+    let call = Call::Pair { plan, places: places.to_vec() };
+    KnownCall {
+        name,
+        call: call.clone(),
+        answer: Answer::Pair(PairTold { number, lower, higher }),
+        after: call,
+    }
+}
+
+/// One square of side 10 in each layer, at these lefts.
+fn in_a_line(lefts: &[i32]) -> Plan {
+    let mut sizes = [0; 6];
+    sizes[..lefts.len()].fill(1);
+    let cells = lefts.iter().flat_map(|&left| [left, 0, left + 10, 10]).collect();
+    Plan { shape: Shape { k: lefts.len() as u32, sizes }, cells }
+}
+
+/// Order maker, row call and pair call on plan D, and each of their causes by the smallest change of plan D that has it.
 pub fn known_calls() -> Vec<KnownCall> {
     vec![
         order("the order of D", shaped(2, 2, 1), 0, &[0, 2, 1]),
@@ -69,6 +89,27 @@ pub fn known_calls() -> Vec<KnownCall> {
         row("a row with a size of 600", shaped(2, 2, 600), &[0, 0], (2, 0, 0)),
         row("a row with one rectangle too many", shaped(2, 1, 1), &[0, 0], (3, 0, 0)),
         row("a row with a right of 1000001", with_cell(2, 1_000_001), &[0, 0], (4, 0, 0)),
+        pair("the pair of the first row of D", shaped(2, 2, 1), &[0, 0], (0, 0, 0)),
+        pair("the pair of two that touch", shaped(2, 2, 1), &[1, 0], (0, 0, 0)),
+        pair("the pair of two that lie a millimetre apart", with_cell(9, 501), &[1, 0], (0, 1, 2)),
+        pair("the first of two pairs by the lower layer", in_a_line(&[0, 5, 9, 20]), &[0; 4], (0, 1, 4)),
+        pair("three that meet in turn but not all", in_a_line(&[0, 10, 20]), &[0; 3], (0, 1, 3)),
+        pair("layers 1 and 4 before 2 and 3", in_a_line(&[10, 0, 20, 21]), &[0; 4], (0, 1, 4)),
+        pair("a pair of six that all touch", in_a_line(&[0, 10, 0, 10, 0, 10]), &[0; 6], (0, 0, 0)),
+        pair("a place past the last", shaped(2, 2, 1), &[2, 0], (23, 0, 0)),
+        pair("one place", shaped(2, 2, 1), &[0], (23, 0, 0)),
+        pair("three places", shaped(2, 2, 1), &[0, 0, 0], (23, 0, 0)),
+        pair("no places", shaped(2, 2, 1), &[], (23, 0, 0)),
+        pair(
+            "a place in an empty layer",
+            Plan { shape: shaped(2, 1, 0).shape, cells: D[..4].to_vec() },
+            &[0, 0],
+            (23, 0, 0),
+        ),
+        pair("a pair of no layers", shaped(0, 2, 1), &[], (1, 0, 0)),
+        pair("a pair with a size of 600", shaped(2, 2, 600), &[9], (2, 0, 0)),
+        pair("a pair with one rectangle too many", shaped(2, 1, 1), &[9], (3, 0, 0)),
+        pair("a pair with a right of 1000001", with_cell(2, 1_000_001), &[9], (4, 0, 0)),
     ]
 }
 

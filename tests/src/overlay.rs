@@ -59,6 +59,14 @@ pub struct RowTold {
     pub area: u64,
 }
 
+/// What the pair call returns; number 0 with both layers 0 says that the rectangles share a point.
+#[derive(Clone, Copy, Debug, PartialEq, Eq)]
+pub struct PairTold {
+    pub number: u32,
+    pub lower: u32,
+    pub higher: u32,
+}
+
 /// What the reader of a plan text returns.
 #[derive(Clone, Copy, Debug, PartialEq, Eq)]
 pub struct Reading {
@@ -79,6 +87,8 @@ pub trait Overlay {
     fn make_order(&self, shape: &Shape, cells: &[i32], order: &mut [u32]) -> u32;
     /// Tells the guard's layer and the area of the row in the cells.
     fn row(&self, shape: &Shape, cells: &[i32], row: &[u32]) -> RowTold;
+    /// Tells the first pair of layers whose rectangles at the places do not meet.
+    fn pair(&self, shape: &Shape, cells: &[i32], places: &[u32]) -> PairTold;
     /// Gives the ticket of the first trial.
     fn fresh(&self, shape: &Shape, cells: &[i32], order: &[u32]) -> (u32, Ticket);
     /// Does trials from a ticket on, within a budget and a table.

@@ -1,10 +1,10 @@
 //! Overlays with one slip each; the comparison must catch every one.
 
-use crate::overlay::{Overlay, Page, Reading, RowTold, Run, Shape, Stop, Ticket, Writing};
+use crate::overlay::{Overlay, Page, PairTold, Reading, RowTold, Run, Shape, Stop, Ticket, Writing};
 use crate::reference::{
-    count_rows, intersection, is_empty, join, layers_of, line_of, order_fault, page_by, page_from, passes,
-    plan_fault, position, refused_page, refused_run, report, square_metres, sweep_order, takes, ticket_at,
-    trials_by, Layers, Line, Passes, Rect, Reference,
+    bad_places, count_rows, intersection, is_empty, join, layers_of, line_of, order_fault, page_by,
+    page_from, pairs, passes, plan_fault, position, rects_at, refused_page, refused_pair, refused_run,
+    report, square_metres, sweep_order, takes, ticket_at, trials_by, Layers, Line, Passes, Rect, Reference,
 };
 
 /// The slips.
@@ -53,10 +53,19 @@ pub enum Slip {
     EightWrites,
     ReadPast,
     FreshRefusalGoing,
+    PairLast,
+    PairByHigher,
+    PairTouching,
+    PairNeighbours,
+    PairFromZero,
+    PairCauseFirst,
+    PairCauseLate,
+    PlacesTooLong,
+    PlaceAtSize,
 }
 
 /// Every slip with its description.
-pub const SLIPS: [(Slip, &str); 43] = [
+pub const SLIPS: [(Slip, &str); 52] = [
     (Slip::TiesTwice, "guards chosen with <= on both sides, so ties list a row twice"),
     (Slip::OpenEdges, "open edges"),
     (Slip::SpentAtEnd, "Spent reported where the last trial ended the walk"),
@@ -100,6 +109,15 @@ pub const SLIPS: [(Slip, &str); 43] = [
     (Slip::EightWrites, "an order buffer written before refusal 8"),
     (Slip::ReadPast, "the reader writing past the first 4n cells"),
     (Slip::FreshRefusalGoing, "a refused fresh ticket that is not Ended"),
+    (Slip::PairLast, "the last pair of layers and not the first"),
+    (Slip::PairByHigher, "the first pair of layers by its higher layer and then its lower"),
+    (Slip::PairTouching, "two rectangles that only touch told as a pair that does not meet"),
+    (Slip::PairNeighbours, "a pair sought among neighbouring layers alone"),
+    (Slip::PairFromZero, "the layers of a pair counted from 0"),
+    (Slip::PairCauseFirst, "23 before the causes of the plan"),
+    (Slip::PairCauseLate, "23 only where no pair is found among the places that are there"),
+    (Slip::PlacesTooLong, "more than k places read as the first k"),
+    (Slip::PlaceAtSize, "a place one past the last read as the last"),
 ];
 
 /// The reference with one slip.
@@ -205,6 +223,40 @@ fn after_last(shape: &Shape, cells: &[i32], ticket: &Ticket) -> Option<Ticket> {
 fn guard_highest(layers: &Layers, row: &[u32]) -> u32 {
     let left = |j: usize| layers[j][row[j] as usize].left;
     (0..layers.len()).max_by_key(|&j| (left(j), j)).map_or(0, |j| j as u32 + 1)
+}
+
+/// The first of these pairs of layers whose rectangles share no points, or none that are inner to both where touching does not count.
+fn pair_among(rects: &[Rect], among: Vec<(usize, usize)>, touching: bool) -> PairTold {
+    let apart = |&(i, j): &(usize, usize)| {
+        let common = intersection(rects[i], rects[j]);
+        is_empty(common) || (!touching && (common.left == common.right || common.bottom == common.top))
+    };
+    let (lower, higher) = among.into_iter().find(apart).map_or((0, 0), |(i, j)| (i as u32 + 1, j as u32 + 1));
+    PairTold { number: 0, lower, higher }
+}
+
+/// The pair call that looks at each place only when a pair has it.
+fn pair_before_places(shape: &Shape, cells: &[i32], places: &[u32]) -> PairTold {
+    let layers = layers_of(shape, cells);
+    let k = (0..places.len()).take_while(|&j| !bad_places(&layers[..=j].to_vec(), &places[..=j])).count();
+    let told = pair_among(&rects_at(&layers, &places[..k]), pairs(k), true);
+    if told.higher == 0 {
+        refused_pair(23)
+    } else {
+        told
+    }
+}
+
+/// The pairs of layers of which one slip takes the first.
+fn pairs_by(slip: Slip, k: usize) -> Vec<(usize, usize)> {
+    let mut all = pairs(k);
+    match slip {
+        Slip::PairLast => all.reverse(),
+        Slip::PairByHigher => all.sort_by_key(|&(lower, higher)| (higher, lower)),
+        Slip::PairNeighbours => all.retain(|&(lower, higher)| higher == lower + 1),
+        _ => {}
+    }
+    all
 }
 
 /// An order of all rectangles, sorted by left but not by layer and place.
@@ -396,6 +448,42 @@ impl Overlay for Wrong {
             Slip::OpenEdges if told.area == 0 => RowTold { layer: 0, ..told },
             Slip::GuardHighest => RowTold { layer: guard_highest(&layers, row), ..told },
             _ => told,
+        }
+    }
+
+    /// The pair call with its slips.
+    fn pair(&self, shape: &Shape, cells: &[i32], places: &[u32]) -> PairTold {
+        let told = Reference.pair(shape, cells, places);
+        let k = shape.k.min(6) as usize;
+        match (self.0, told.number) {
+            (Slip::ThreeBeforeTwo, 2) if three_first(shape, cells) => return refused_pair(3),
+            (Slip::PairCauseFirst, 1..=4) if places.len() != k => return refused_pair(23),
+            (Slip::PlacesTooLong, 23) if places.len() > k => {
+                return Reference.pair(shape, cells, &places[..k])
+            }
+            (Slip::PlaceAtSize, 23) => {
+                let last = |(&place, &size): (&u32, &u32)| {
+                    if place == size {
+                        size.saturating_sub(1)
+                    } else {
+                        place
+                    }
+                };
+                let held: Vec<u32> = places.iter().zip(&shape.sizes).map(last).collect();
+                return if held.len() == places.len() { Reference.pair(shape, cells, &held) } else { told };
+            }
+            (Slip::PairCauseLate, 23) if places.len() == k => {
+                return pair_before_places(shape, cells, places)
+            }
+            (_, 1..) => return told,
+            _ => {}
+        }
+        let rects = rects_at(&layers_of(shape, cells), places);
+        match self.0 {
+            Slip::PairFromZero if told.higher > 0 => {
+                PairTold { lower: told.lower - 1, higher: told.higher - 1, ..told }
+            }
+            slip => pair_among(&rects, pairs_by(slip, k), slip != Slip::PairTouching),
         }
     }
 

@@ -1,8 +1,8 @@
 //! Every outcome of every call occurs often enough among the compared cases.
 
 use overlay_tests::compare::compare;
-use overlay_tests::overlay::{Overlay, Page, Reading, RowTold, Run, Shape, Stop, Ticket, Writing};
-use overlay_tests::reference::Reference;
+use overlay_tests::overlay::{Overlay, Page, PairTold, Reading, RowTold, Run, Shape, Stop, Ticket, Writing};
+use overlay_tests::reference::{pairs, Reference};
 use std::cell::RefCell;
 use std::collections::BTreeMap;
 
@@ -49,6 +49,15 @@ impl Overlay for Counting {
     fn row(&self, shape: &Shape, cells: &[i32], row: &[u32]) -> RowTold {
         let told = Reference.row(shape, cells, row);
         self.count(format!("row {} layer {}", told.number, told.layer));
+        told
+    }
+
+    fn pair(&self, shape: &Shape, cells: &[i32], places: &[u32]) -> PairTold {
+        let told = Reference.pair(shape, cells, places);
+        self.count(format!("pair {} of {} and {}", told.number, told.lower, told.higher));
+        if told.number == 0 && told.higher == 0 {
+            self.count(format!("pair none of k {}", shape.k));
+        }
         told
     }
 
@@ -101,6 +110,7 @@ fn outcomes() -> Vec<String> {
     add("read", &[0, 9, 10, 11]);
     add("write", &[0, 1, 2, 3, 4, 12]);
     add("row 0 layer", &[0, 1, 2, 3, 4, 5, 6]);
+    add("pair none of k", &[2, 3, 4, 5, 6]);
     add("page Ended k", &[2, 3, 4, 5, 6]);
     add("page Full k", &[2, 3, 4, 5, 6]);
     add("page Spent k", &[2, 3, 4, 5, 6]);
@@ -108,6 +118,8 @@ fn outcomes() -> Vec<String> {
         all.extend((0..=k - 2).map(|filled| format!("ticket filled {filled} of k {k}")));
     }
     all.extend((1..=4).map(|number| format!("row {number} layer 0")));
+    all.extend([1, 2, 3, 4, 23].map(|number| format!("pair {number} of 0 and 0")));
+    all.extend(pairs(6).iter().map(|(lower, higher)| format!("pair 0 of {} and {}", lower + 1, higher + 1)));
     all.extend((0..=5).map(|number| format!("fresh {number} ended true")));
     all.push("fresh 0 ended false".into());
     all.extend((1..=6).map(|number| format!("page Refused({number})")));

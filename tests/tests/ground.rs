@@ -3,8 +3,8 @@
 use overlay_tests::call::Plan;
 use overlay_tests::overlay::{Overlay, Page, Reading, Run, Shape, Stop, Ticket, Writing};
 use overlay_tests::reference::{
-    each_row_by_loops, each_row_by_product, join, layers_of, passes, report, square_metres, trials_by,
-    walk_length, Reference,
+    each_row_by_loops, each_row_by_product, each_tuple, join, layers_of, passes, report, row_of,
+    share_a_point, square_metres, trials_by, walk_length, Rect, Reference,
 };
 use overlay_tests::seeds::{equal_plan, order, plan_d, plan_from, shape_of, spell, text, Seeds, STYLES};
 
@@ -233,6 +233,30 @@ fn product_and_loops_find_the_same_rows() {
         each_row_by_product(&layers, &mut |row| a.push(row.to_vec()));
         each_row_by_loops(&layers, &mut |row| b.push(row.to_vec()));
         assert_eq!(a, b);
+    }
+}
+
+#[test]
+fn a_pair_is_told_exactly_where_there_is_no_row() {
+    for plan in plans() {
+        let layers = layers_of(&plan.shape, &plan.cells);
+        each_tuple(&layers, &mut Vec::new(), &mut |places| {
+            let told = Reference.pair(&plan.shape, &plan.cells, places);
+            assert_eq!(told.number, 0);
+            assert_eq!(told.higher == 0, row_of(&layers, places).is_some());
+        });
+    }
+}
+
+#[test]
+fn a_common_point_is_found_where_any_point_is_common() {
+    let mut seeds = Seeds(7);
+    for at in 0..200 {
+        // Style 1 has coordinates from -4 to 5.
+        let plan = seeds.plan_of(&[1; 6][..2 + at % 5], 1);
+        let rects: Vec<Rect> = layers_of(&plan.shape, &plan.cells).concat();
+        let inside = |x, y| rects.iter().all(|r| r.left <= x && x <= r.right && r.bottom <= y && y <= r.top);
+        assert_eq!(share_a_point(&rects), (-4..=5).any(|x| (-4..=5).any(|y| inside(x, y))));
     }
 }
 

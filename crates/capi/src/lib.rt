@@ -7,6 +7,8 @@ use cells::cursor_cells;
 use cells::cursor_in;
 use cells::order_number;
 use cells::page_cells;
+use cells::pair_cells;
+use cells::pair_number;
 use cells::row_cells;
 use cells::row_number;
 use cells::run_cells;
@@ -20,6 +22,7 @@ use nearest::nearest;
 use pager::fetch_page;
 use pager::fresh_cursor;
 use pager::run_all;
+use pairs::apart_pair;
 use plan::Shape;
 use plan::plan_cause;
 use plan::rect_at;
@@ -35,11 +38,12 @@ ghost use Rattle.plan.specs.Plan.{rectAt, planCause};
 ghost use Rattle.nearest.specs.Nearest.{nearestCall, nearCells};
 ghost use Rattle.sweep.specs.Sweep.{orderCause, makeCause, orderAfter};
 ghost use Rattle.rows.specs.RowCall.{rowCall, rowValues};
+ghost use Rattle.pairs.specs.PairCall.{pairCall, pairValues};
 ghost use Rattle.paging.specs.Calls.{freshCall, pageCause, pageCall, pageTable, runCall, runTable, runValues};
 ghost use Rattle.survey.specs.CoverCall.{coverCause, coverAnswer, coverValues, coverAfter};
 ghost use Rattle.text.specs.Reader.{readCause, readAnswer, cellsAfter};
 ghost use Rattle.text.specs.Writer.{writeCause, writeLength, bufferAfter};
-ghost use Rattle.cells.specs.Cells.{shapeOf, cursorCells, cursorIn, pageCells, cursorAfter, runCells, rowCells, acrossIn, upwardIn};
+ghost use Rattle.cells.specs.Cells.{shapeOf, cursorCells, cursorIn, pageCells, cursorAfter, runCells, rowCells, acrossIn, upwardIn, pairCells};
 
 // The first of the causes 1 to 4 that applies to a plan.
 #[no_mangle]
@@ -108,6 +112,25 @@ pub extern "C" fn overlay_nearest(
     let told = nearest(Shape { k, sizes: six }, cells, rect_at(around, 0));
     *answer = near_cells(told);
     told.number
+}
+
+// Whether the rectangles at the lent places share a point, or the first pair of layers whose two do not meet. The answer's cells: the lower layer, the
+// higher; both 0 where they share a point.
+#[no_mangle]
+pub extern "C" fn overlay_apart_pair(
+    k: u32,
+    sizes: &[u32; 6],
+    cells: &[i32],
+    places: &[u32],
+    answer: &mut [u64; 2],
+) -> u32
+    ensures number { λ r. ⌜ r ≡ pairValues (pairCall (shapeOf k (now (sizes .entry))) (now (cells .entry)) (now (places .entry))) .number ⌝ }
+    ensures answer { λ _. ⌜ now (answer .exit) ≡ pairCells (pairValues (pairCall (shapeOf k (now (sizes .entry))) (now (cells .entry)) (now (places .entry)))) ⌝ }
+{
+    let six = *sizes;
+    let told = apart_pair(Shape { k, sizes: six }, cells, places);
+    *answer = pair_cells(told);
+    pair_number(told)
 }
 
 // The cursor of the first probe of a plan's walk.

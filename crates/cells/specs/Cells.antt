@@ -13,6 +13,7 @@ use Rattle.rows.specs.RowCall.{RowValues}
 use Rattle.floats.specs.Values.{exact}
 use Rattle.survey.specs.declared.Strip.{Strip}
 use Rattle.survey.specs.declared.Strip.the-variants.{Free, From, To, Between}
+use Rattle.pairs.specs.PairCall.{PairValues}
 use Rattle.paging.specs.declared.Cursor.{Cursor}
 use Rattle.paging.specs.declared.Page.{Page}
 use Rattle.search.specs.declared.Stop.{Stop}
@@ -58,6 +59,10 @@ runCells v = v .rows ∷ v .probes ∷ valueOf (v .area) ∷ []
 -- ---- rows: the guard's layer, area
 abbrev pub rowCells : RowValues → List ℕ
 rowCells v = v .layer ∷ v .area ∷ []
+
+-- ---- pairs of layers: the lower layer, the higher
+abbrev pub pairCells : PairValues → List ℕ
+pairCells v = v .lower ∷ v .higher ∷ []
 
 -- ---- strips: a kind (0 free, 1 a lower stop, 2 an upper stop, 3 both) and two stops, of which those that the kind has not are not looked at
 -- stands for a kind above 3: its lower stop is above its upper one, so 21 refuses it

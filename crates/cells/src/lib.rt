@@ -2,6 +2,7 @@
 use paging::Cursor;
 use paging::Page;
 use paging::Run;
+use pairs::PairAnswer;
 use rows::RowAnswer;
 use search::Stop;
 use survey::Covering;
@@ -12,10 +13,11 @@ use totals::value;
 ghost use mathlib.Core.Path.{_≡_};
 ghost use Rattle.sweep.specs.Sweep.{orderNumber};
 ghost use Rattle.rows.specs.RowCall.{rowValues};
+ghost use Rattle.pairs.specs.PairCall.{pairValues};
 ghost use Rattle.paging.specs.Calls.{stopNumber, runValues};
 ghost use Rattle.text.specs.Writer.{numberOf, lengthOf};
 ghost use Rattle.survey.specs.CoverCall.{coverValues};
-ghost use Rattle.cells.specs.Cells.{cursorCells, cursorIn, stopCode, pageCells, cursorAfter, runCells, rowCells, stripIn};
+ghost use Rattle.cells.specs.Cells.{cursorCells, cursorIn, stopCode, pageCells, cursorAfter, runCells, rowCells, stripIn, pairCells};
 
 // The number of a writer's answer.
 pub fn written_number(writing: Writing) -> u32
@@ -66,6 +68,28 @@ pub fn row_cells(answer: RowAnswer) -> [u64; 2]
         RowAnswer::Refused(_) => [0, 0],
         RowAnswer::NoRow => [0, 0],
         RowAnswer::Row(layer, area) => [layer as u64, area],
+    }
+}
+
+// The number of a pair call's answer.
+pub fn pair_number(answer: PairAnswer) -> u32
+    ensures { λ r. ⌜ r ≡ pairValues answer .number ⌝ }
+{
+    match answer {
+        PairAnswer::Refused(cause) => cause,
+        PairAnswer::Share => 0,
+        PairAnswer::Pair(_, _) => 0,
+    }
+}
+
+// The cells of a pair call's answer.
+pub fn pair_cells(answer: PairAnswer) -> [u64; 2]
+    ensures { λ r. ⌜ r ≡ pairCells (pairValues answer) ⌝ }
+{
+    match answer {
+        PairAnswer::Refused(_) => [0, 0],
+        PairAnswer::Share => [0, 0],
+        PairAnswer::Pair(lower, higher) => [lower as u64, higher as u64],
     }
 }
 

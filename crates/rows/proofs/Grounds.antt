@@ -1,5 +1,5 @@
 -- Laws of what rectangles share, found one by one: the row call's loop.
-use mathlib.Core.Path.{_≡_, refl, sym, ap, ap₂, _∙_}
+use mathlib.Core.Path.{_≡_, refl, sym, ap, _∙_}
 use mathlib.Core.List.{List, [], _∷_}
 use mathlib.Core.Bool.{Bool, true, false, cond}
 use Prim.Native.Nat.{ℕ, suc, _+_, _*_, _≤_, _<_}
@@ -7,27 +7,26 @@ use native.Mathlib.Omega.{arith}
 use native.Mathlib.Numerals.{add-one}
 use lib.IntN.{ℤ}
 use lib.Signed.{ltZ, _≤ℤ_}
-use lib.ListN.{length, getD, take, drop, drop-of-length-le}
-use lib.Seq.{drop-cons, drop-drop}
-use Rattle.lists.specs.Lists.{sum}
+use lib.ListN.{length, getD, take, drop}
+use Rattle.lists.specs.Lists.{All, _and_}
 use Rattle.lists.proofs.Tests.{clash, never-true}
 use Rattle.geometry.specs.declared.Rect.{Rect}
 use Rattle.geometry.specs.declared.Meeting.{Meeting}
 use Rattle.geometry.specs.declared.Meeting.the-variants.{Apart, Common}
-use Rattle.geometry.specs.Rectangles.{maxZ, common, nonempty, meets, meeting, extent, inExtent}
+use Rattle.geometry.specs.Rectangles.{maxZ, common, nonempty, meets, meeting}
 use Rattle.geometry.proofs.Integers.{zarith}
-use Rattle.geometry.proofs.Rectangles.{max-law, held-nonempty, meeting-apart, meeting-common}
+use Rattle.geometry.proofs.Rectangles.{max-law, meeting-apart, meeting-common}
 use Rattle.plan.specs.Plan.{rectAt, layersOf}
 use Rattle.plan.specs.Frames.{Framed}
-use Rattle.plan.proofs.Spots.{rect-take}
 use Rattle.rows.specs.declared.Ground.{Ground}
 use Rattle.rows.specs.declared.Sharing.{Sharing}
 use Rattle.rows.specs.declared.Sharing.the-variants.{Nothing, Shared}
 use Rattle.join.specs.Join.{rects, cut, sameZ, firstAt}
 use Rattle.rows.specs.RowCall.{fits}
+use Rattle.rows.specs.Layers.{Reached, rectsFrom}
 use Rattle.rows.specs.Grounds.{takeIn, sharedBy}
 use Rattle.join.proofs.Join.{cut-some, cut-above, same-yes, same-true}
-use Rattle.rows.proofs.RowCall.{fits-long, fits-at}
+use Rattle.rows.proofs.Layers.{reached-next, rects-next, rects-end, rects-solid}
 
 -- ---- one rectangle more
 module _ (g : Ground) (r : Rect) (i : ℕ) (m : Meeting) (made : m ≡ meeting (g .common) r) where
@@ -89,14 +88,8 @@ walked-all r rs e =
 -- ---- layer by layer: after j layers, which have `start` rectangles, those that are left lead to the whole
 pub record Through (sizes : List ℕ) (cells : List ℤ) (row : List ℕ) (g : Ground) (start j : ℕ) : Type 0 where
   pub some : 1 ≤ j
-  pub within : j ≤ length sizes
-  pub sums : start + sum (drop j sizes) ≡ sum sizes
-  pub same : walked g j (rects (layersOf (drop j sizes) (drop (4 * start) cells)) (drop j row)) ≡ sharedBy (rects (layersOf sizes cells) row)
-
-pub first-reads : (sizes : List ℕ) (cells : List ℤ) (row : List ℕ) → Framed sizes cells → fits sizes row ≡ true
-    → (4 * 0 + 4 * getD sizes 0 0 ≤ length cells) × (getD row 0 0 < getD sizes 0 0)
-first-reads [] cells row f e = absurd (omega (arith, f .some))
-first-reads (n ∷ ns) cells row f e = (omega (arith, f .whole), fits-at (n ∷ ns) row 0 e (omega arith))
+  pub reached : Reached sizes start j
+  pub same : walked g j (rectsFrom sizes cells row start j) ≡ sharedBy (rects (layersOf sizes cells) row)
 
 pub through-first : (sizes : List ℕ) (cells : List ℤ) (row : List ℕ) (r : Rect) → Framed sizes cells → fits sizes row ≡ true
     → r ≡ rectAt (take (4 * getD sizes 0 0) (drop (4 * 0) cells)) (getD row 0 0) → Through sizes cells row (record { common = r; guard = 0 }) (getD sizes 0 0) 1
@@ -104,47 +97,31 @@ through-first [] cells row r f e q = absurd (omega (arith, f .some))
 through-first (n ∷ ns) cells [] r f e q = clash e refl
 through-first (n ∷ ns) cells (p ∷ row) r f e q = record {
   some = omega arith;
-  within = omega (arith, f .some);
-  sums = refl;
-  same = walked-all r (rects (layersOf ns (drop (4 * n) cells)) row) solid ∙ ap (λ (z : Rect). sharedBy (z ∷ rects (layersOf ns (drop (4 * n) cells)) row)) q;
+  reached = record { within = omega (arith, f .some); sums = refl };
+  same = walked-all r (rects (layersOf ns (drop (4 * n) cells)) row) (solid (rects-solid (n ∷ ns) cells (p ∷ row) e (f .ranged))) ∙ ap (λ (z : Rect). sharedBy (z ∷ rects (layersOf ns (drop (4 * n) cells)) row)) q;
 }
   where
-    solid : nonempty r ≡ true
-    solid =
-        let h = fits-at (n ∷ ns) (p ∷ row) 0 e (omega arith) in
-        held-nonempty extent r (ap inExtent (q ∙ rect-take cells n p h) ∙ f .ranged p (omega arith))
+    solid : All (λ z. nonempty z ≡ true) (rectAt (take (4 * n) cells) p ∷ rects (layersOf ns (drop (4 * n) cells)) row) → nonempty r ≡ true
+    solid (_and_ h hs) = ap nonempty q ∙ h
 
-module _ (sizes : List ℕ) (cells : List ℤ) (row : List ℕ) (g : Ground) (start j : ℕ) (t : Through sizes cells row g start j) (e : fits sizes row ≡ true) (h : j < length sizes) where
-  pub sum-next : start + getD sizes j 0 + sum (drop (suc j) sizes) ≡ sum sizes
-  sum-next = omega (arith, t .sums, ap sum (drop-cons sizes j 0 h))
+module _ (sizes : List ℕ) (cells : List ℤ) (row : List ℕ) (g : Ground) (start j : ℕ) (t : Through sizes cells row g start j) (e : fits sizes row ≡ true) (h : j < length sizes) (r : Rect)
+    (p : r ≡ rectAt (take (4 * getD sizes j 0) (drop (4 * start) cells)) (getD row j 0)) where
+  abbrev rest : List Rect
+  rest = rectsFrom sizes cells row (start + getD sizes j 0) (j + 1)
 
-  -- the next layer and its rectangle are there
-  pub through-reads : Framed sizes cells → (4 * start + 4 * getD sizes j 0 ≤ length cells) × (getD row j 0 < getD sizes j 0)
-  through-reads f = (omega (arith, sum-next, f .whole), fits-at sizes row j e h)
+  step : onward (λ d. walked d (suc j) rest) (takeIn g r j) ≡ sharedBy (rects (layersOf sizes cells) row)
+  step = sym (ap (walked g j) (rects-next sizes start j (t .reached) h cells row e r p)) ∙ t .same
 
-  module _ (r : Rect) (p : r ≡ rectAt (take (4 * getD sizes j 0) (drop (4 * start) cells)) (getD row j 0)) where
-    later : drop (4 * getD sizes j 0) (drop (4 * start) cells) ≡ drop (4 * (start + getD sizes j 0)) cells
-    later =
-        let q : 4 * start + 4 * getD sizes j 0 ≡ 4 * (start + getD sizes j 0) = omega arith in
-        drop-drop (4 * getD sizes j 0) (4 * start) cells ∙ ap (λ (n : ℕ). drop n cells) q
+  pub through-more : (d : Ground) → Shared d ≡ takeIn g r j → Through sizes cells row d (start + getD sizes j 0) (j + 1)
+  through-more d q = record {
+    some = omega arith;
+    reached = reached-next sizes start j (t .reached) h;
+    same = ap (λ (i : ℕ). walked d i rest) (add-one j) ∙ ap (onward (λ d. walked d (suc j) rest)) q ∙ step;
+  }
 
-    abbrev rest : List Rect
-    rest = rects (layersOf (drop (suc j) sizes) (drop (4 * (start + getD sizes j 0)) cells)) (drop (suc j) row)
-
-    step : onward (λ d. walked d (suc j) rest) (takeIn g r j) ≡ sharedBy (rects (layersOf sizes cells) row)
-    step =
-        sym
-        (ap₂ (λ (ns ps : List ℕ). walked g j (rects (layersOf ns (drop (4 * start) cells)) ps)) (drop-cons sizes j 0 h) (drop-cons row j 0 (omega (arith, fits-long sizes row e)))
-        ∙ ap₂ (λ (z : Rect) (cs : List ℤ). walked g j (z ∷ rects (layersOf (drop (suc j) sizes) cs) (drop (suc j) row))) (sym p) later)
-        ∙ t .same
-
-    pub through-more : (d : Ground) → Shared d ≡ takeIn g r j → Through sizes cells row d (start + getD sizes j 0) (j + 1)
-    through-more d q = rw add-one (record { some = omega arith; within = h; sums = sum-next; same = ap (onward (λ d. walked d (suc j) rest)) q ∙ step })
-
-    pub through-stop : Nothing ≡ takeIn g r j → Nothing ≡ sharedBy (rects (layersOf sizes cells) row)
-    through-stop q = ap (onward (λ d. walked d (suc j) rest)) q ∙ step
+  pub through-stop : Nothing ≡ takeIn g r j → Nothing ≡ sharedBy (rects (layersOf sizes cells) row)
+  through-stop q = ap (onward (λ d. walked d (suc j) rest)) q ∙ step
 
 pub through-last : (sizes : List ℕ) (cells : List ℤ) (row : List ℕ) (g : Ground) (start j : ℕ) → Through sizes cells row g start j → length sizes ≤ j
     → Shared g ≡ sharedBy (rects (layersOf sizes cells) row)
-through-last sizes cells row g start j t h =
-    sym (ap (λ (ns : List ℕ). walked g j (rects (layersOf ns (drop (4 * start) cells)) (drop j row))) (drop-of-length-le sizes h)) ∙ t .same
+through-last sizes cells row g start j t h = sym (ap (walked g j) (rects-end sizes cells row start j h)) ∙ t .same

@@ -1,4 +1,5 @@
 pub mod RowCall
+pub mod Layers
 pub mod Grounds
 pub mod Answers
 pub mod Theorems

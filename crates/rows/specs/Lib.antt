@@ -1,3 +1,4 @@
 pub mod RowCall
 pub mod Theorems
+pub mod Layers
 pub mod Grounds

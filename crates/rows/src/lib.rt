@@ -77,7 +77,7 @@ fn ground_in(sizes: &[u32], cells: &[i32], row: &[u32]) -> Sharing
 }
 
 // One place for each size, below it.
-fn all_fit(sizes: &[u32], row: &[u32]) -> bool
+pub fn all_fit(sizes: &[u32], row: &[u32]) -> bool
     ensures { λ r. ⌜ r ≡ fits (now (sizes .entry)) (now (row .entry)) ⌝ }
 {
     if row.len() != sizes.len() {
@@ -132,7 +132,7 @@ fn take_in(g: Ground, r: Rect, layer: u32) -> Sharing
 }
 
 // The rectangle at a place of the layer that begins after `start` rectangles.
-fn rect_in(cells: &[i32], start: usize, size: usize, place: usize) -> Rect
+pub fn rect_in(cells: &[i32], start: usize, size: usize, place: usize) -> Rect
     requires { ⌜ (4 * start + 4 * size ≤ length (now cells)) × (place < size) ⌝ }
     ensures { λ r. ⌜ r ≡ rectAt (take (4 * size) (drop (4 * start) (now (cells .entry)))) place ⌝ }
 {

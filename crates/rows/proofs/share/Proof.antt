@@ -6,7 +6,8 @@ use Prim.Native.Nat.{_-_}
 use native.Mathlib.Omega.{arith}
 use lib.ListN.{length}
 use Rattle.rows.proofs.RowCall.{fits-long}
-use Rattle.rows.proofs.Grounds.{Through, first-reads, through-first, sum-next, through-reads, through-more, through-stop, through-last}
+use Rattle.rows.proofs.Layers.{first-reads, sum-next, next-reads}
+use Rattle.rows.proofs.Grounds.{Through, through-first, through-more, through-stop, through-last}
 use Rattle.rows.proofs.share.Statement.{statement}
 use Rattle.rows.proofs.share.Tie as tie
 
@@ -60,7 +61,7 @@ rect-in-requires-2 : tie.Need-rect-in-requires-2 Inv-loop μ-loop
 rect-in-requires-2 c κs =
     let l = c .before .before .before in
     let s = l .before .before .before .before .before .before in
-    through-reads _ _ _ _ _ _ (l .loop .inv) (s .pre .1) (c .before .before .loop-test .taken) (s .pre .0)
+    next-reads _ _ _ (l .loop .inv .reached) (c .before .before .loop-test .taken) _ _ (s .pre .1) (s .pre .0)
 
 cast-take-in : tie.Need-cast-take-in Inv-loop μ-loop
 cast-take-in c =
@@ -87,7 +88,7 @@ add-start c =
     let k = c .before .before .before in
     let l = k .before .before .before .before .before in
     let s = l .before .before .before .before .before .before in
-    omega (arith, sum-next _ _ _ _ _ _ (l .loop .inv) (s .pre .1) (k .before .before .before .before .loop-test .taken), s .pre .0 .whole)
+    omega (arith, sum-next _ _ _ (l .loop .inv .reached) (k .before .before .before .before .loop-test .taken), s .pre .0 .whole)
 
 add-j : tie.Need-add-j Inv-loop μ-loop
 add-j c = omega arith

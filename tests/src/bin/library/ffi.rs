@@ -1,7 +1,7 @@
 //! The library under test through its C interface (include/overlay.h), behind safe functions.
 
 use overlay_tests::nearest::{Near, NearestTold};
-use overlay_tests::overlay::{Overlay, Page, Reading, RowTold, Run, Shape, Stop, Ticket, Writing};
+use overlay_tests::overlay::{Overlay, Page, PairTold, Reading, RowTold, Run, Shape, Stop, Ticket, Writing};
 use overlay_tests::surveys::{Covered, Survey};
 
 #[link(name = "capi", kind = "static")]
@@ -38,6 +38,15 @@ extern "C" {
         cells: *const i32,
         cells_length: usize,
         around: *const i32,
+        answer: *mut u64,
+    ) -> u32;
+    fn overlay_apart_pair(
+        k: u32,
+        sizes: *const u32,
+        cells: *const i32,
+        cells_length: usize,
+        places: *const u32,
+        places_length: usize,
         answer: *mut u64,
     ) -> u32;
     fn overlay_fresh_cursor(
@@ -253,6 +262,23 @@ impl Overlay for Library {
             )
         };
         RowTold { number, layer: small(answer[0]), area: answer[1] }
+    }
+
+    fn pair(&self, shape: &Shape, cells: &[i32], places: &[u32]) -> PairTold {
+        let mut answer = [UNWRITTEN; 2];
+        // SAFETY: every pointer comes from a reference, with its length; the one written to is exclusive.
+        let number = unsafe {
+            overlay_apart_pair(
+                shape.k,
+                shape.sizes.as_ptr(),
+                cells.as_ptr(),
+                cells.len(),
+                places.as_ptr(),
+                places.len(),
+                answer.as_mut_ptr(),
+            )
+        };
+        PairTold { number, lower: small(answer[0]), higher: small(answer[1]) }
     }
 
     fn fresh(&self, shape: &Shape, cells: &[i32], order: &[u32]) -> (u32, Ticket) {

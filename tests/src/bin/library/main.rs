@@ -19,7 +19,7 @@ fn stop(text: &str, cases: u64) -> ! {
     exit(1);
 }
 
-/// The seven calls of 01 first, then what only the C interface has, then those of 02, then the report program.
+/// The seven calls of 01 and the pair call first, then what only the C interface has, then those of 02, then the report program.
 fn main() {
     let mut tally = compare(&Library, &Reference).unwrap_or_else(|found| stop(&found.text, found.cases));
     let extras = compare_extras().unwrap_or_else(|text| stop(&text, tally.cases()));

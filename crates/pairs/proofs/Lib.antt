@@ -1,0 +1,5 @@
+pub mod Scanning
+pub mod Boxes
+pub mod Firsts
+pub mod Outcomes
+pub mod Theorems
