@@ -14,7 +14,7 @@
 #include <stdint.h>
 
 /* The version of this interface: another one where a declaration, a number or the order of cells is another, or one comes. */
-#define OVERLAY_VERSION 4
+#define OVERLAY_VERSION 5
 
 /* The largest plan: layers, rectangles, cells, and the bytes of its longest text, which is proved. So much is enough for every plan. */
 enum {
@@ -44,6 +44,8 @@ enum overlay_cause {
     OVERLAY_CAUSE_TEXT_LENGTH = 12, /* the text is longer than the buffer */
     OVERLAY_CAUSE_INPUT = 13,       /* the report's input has more than 65,536 bytes */
     OVERLAY_CAUSE_BOX = 14,         /* the box has left > right, bottom > top or a coordinate out of range */
+    OVERLAY_CAUSE_FEW_LAYERS = 15,  /* there are fewer than three layers */
+    OVERLAY_CAUSE_SEGMENTS = 16,    /* bottom and top differ in layer k - 1, or left and right in layer k */
     OVERLAY_CAUSE_RECORD = 20,      /* the corners are not four a record, or one is not finite, out of order or beyond a million when covered */
     OVERLAY_CAUSE_STRIP = 21,       /* a strip's stop is not finite, its lower one is above its upper one, or its kind is above 3 */
     OVERLAY_CAUSE_PLACES = 23       /* there are not k places, or a place is not in its layer */
@@ -77,6 +79,13 @@ enum { OVERLAY_RUN_ROWS = 0, OVERLAY_RUN_PROBES = 1, OVERLAY_RUN_AREA = 2, OVERL
 
 /* The cells of a row's answer: the guard's layer, from 1, and the area in square millimetres. */
 enum { OVERLAY_ROW_LAYER = 0, OVERLAY_ROW_AREA = 1, OVERLAY_ROW_CELLS = 2 };
+
+/* Classes of a row. Class 4(i - 1) + 1 is the left end in the rectangle of layer i, + 2 the right end, + 3 the bottom end, + 4 the top end. */
+enum {
+    OVERLAY_CLASS_CROSSED = 0, /* both segments cross every rectangle of layers 1 to k - 2 */
+    OVERLAY_CLASS_NO_ROW = 17, /* the places name no row, which is no refusal */
+    OVERLAY_CLASS_COUNTS = 17  /* how many counts a crossing report has, of classes 0 to 16 */
+};
 
 /* The cells of a pair's answer: the lower layer and the higher, from 1. */
 enum { OVERLAY_PAIR_LOWER = 0, OVERLAY_PAIR_HIGHER = 1, OVERLAY_PAIR_CELLS = 2 };
@@ -149,6 +158,16 @@ uint32_t overlay_fetch_page(uint32_t k, const uint32_t sizes[6], const int32_t *
 uint32_t overlay_run_all(uint32_t k, const uint32_t sizes[6], const int32_t *cells, size_t cells_length,
                          const uint32_t *order, size_t order_length, uint32_t *table, size_t table_length,
                          uint64_t answer[3]);
+
+/* Leaves in `told` the class of the row that places name, for a plan whose layer k - 1 holds horizontal segments and whose layer k holds vertical ones; 0 after a refusal.
+ * Tells 1 to 4, 15 and 16. */
+uint32_t overlay_row_class(uint32_t k, const uint32_t sizes[6], const int32_t *cells, size_t cells_length,
+                           const uint32_t *places, size_t places_length, uint32_t *told);
+
+/* All rows of such a plan's table, as overlay_run_all, and how many fall in each class, 0 to 16. Tells 1 to 4, 15, 16, 5 and 7. */
+uint32_t overlay_crossing_report(uint32_t k, const uint32_t sizes[6], const int32_t *cells, size_t cells_length,
+                                 const uint32_t *order, size_t order_length, uint32_t *table, size_t table_length,
+                                 uint64_t answer[3], uint32_t counts[17]);
 
 /* Reads a plan text. k and the sizes are left in theirs, 0 after a refusal; cells behind the plan's keep what they held. Tells 9 to 11. */
 uint32_t overlay_read_text(const uint8_t *text, size_t text_length, int32_t *cells, size_t cells_length,

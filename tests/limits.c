@@ -14,7 +14,7 @@ static uint32_t order[OVERLAY_MOST_RECTS], table[OVERLAY_MOST_RECTS], cursor[OVE
 static uint8_t text[OVERLAY_MOST_TEXT];
 static size_t text_length;
 
-/* Each call once, on the largest plan; the pages and the run go over rows of all six layers. */
+/* Each call once, on the largest plan; the pages and the run go over rows of all six layers. Its points are segments too. */
 static uint32_t plan_cause(void) { return overlay_plan_cause(k, sizes, cells, OVERLAY_MOST_CELLS); }
 static uint32_t make_order(void)
 {
@@ -60,6 +60,18 @@ static uint32_t run_all(void)
     return overlay_run_all(k, sizes, cells, OVERLAY_MOST_CELLS, order, OVERLAY_MOST_RECTS, table,
                            OVERLAY_MOST_RECTS, answer);
 }
+static uint32_t row_class(void)
+{
+    uint32_t told;
+    return overlay_row_class(k, sizes, cells, OVERLAY_MOST_CELLS, table, k, &told);
+}
+static uint32_t crossing_report(void)
+{
+    uint64_t answer[OVERLAY_RUN_CELLS];
+    uint32_t counts[OVERLAY_CLASS_COUNTS];
+    return overlay_crossing_report(k, sizes, cells, OVERLAY_MOST_CELLS, order, OVERLAY_MOST_RECTS, table,
+                                   OVERLAY_MOST_RECTS, answer, counts);
+}
 static uint32_t write_text(void)
 {
     return overlay_write_text(k, sizes, cells, OVERLAY_MOST_CELLS, text, OVERLAY_MOST_TEXT, &text_length);
@@ -87,8 +99,9 @@ static const struct {
     uint32_t (*call)(void);
 } calls[] = {{"plan_cause", plan_cause}, {"make_order", make_order},     {"order_cause", order_cause},
              {"row", row},               {"nearest", nearest},           {"apart_pair", apart_pair},
-             {"fresh_cursor", fresh_cursor}, {"fetch_page", fetch_page}, {"run_all", run_all},
-             {"write_text", write_text}, {"read_text", read_text},       {"cover_records", cover_records}};
+             {"row_class", row_class},   {"fresh_cursor", fresh_cursor}, {"fetch_page", fetch_page},
+             {"run_all", run_all},       {"crossing_report", crossing_report}, {"write_text", write_text},
+             {"read_text", read_text},   {"cover_records", cover_records}};
 enum { CALLS = sizeof calls / sizeof *calls };
 
 /* A stack of our own, and how much of it each call has used: all below the caller's frame is filled with a byte, and the lowest that is another one

@@ -7,6 +7,7 @@
 
 pub mod call;
 pub mod compare;
+pub mod crossings;
 pub mod known;
 pub mod nearest;
 pub mod overlay;

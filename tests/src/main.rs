@@ -1,6 +1,7 @@
 //! Compares the reference with wrong overlays, each of which must be caught, and with itself.
 
 use overlay_tests::compare::{compare, Tally};
+use overlay_tests::crossings::{compare_crossings, ByWords, SLIPS as CROSSING_SLIPS};
 use overlay_tests::nearest::{compare_nearest, nearest, WRONG_NEAREST};
 use overlay_tests::reference::{report, Reference};
 use overlay_tests::reports::compare_reports;
@@ -56,6 +57,18 @@ fn catch_wrong_surveys() {
     }
 }
 
+/// Every wrong class call or crossing report must differ from the right one somewhere.
+fn catch_wrong_crossings() {
+    for (slip, name) in CROSSING_SLIPS {
+        match compare_crossings(&ByWords(Some(slip)), &ByWords(None)) {
+            Err(found) => {
+                println!("wrong crossings caught after {} cases ({}): {name}", found.cases, found.kind)
+            }
+            Ok(_) => stop(&format!("wrong crossings not caught: {name}")),
+        }
+    }
+}
+
 /// The reference must agree with itself.
 fn compare_with_itself() -> Tally {
     let mut tally = compare(&Reference, &Reference).unwrap_or_else(|found| stop(&found.text));
@@ -63,6 +76,8 @@ fn compare_with_itself() -> Tally {
     tally.add("nearest", compare_nearest(&nearest, &nearest).unwrap_or_else(|found| stop(&found.text)));
     let surveys = compare_surveys(&cover_records, &cover_records);
     tally.add("surveys", surveys.unwrap_or_else(|found| stop(&found.text)));
+    let crossings = compare_crossings(&ByWords(None), &ByWords(None));
+    tally.add("crossings", crossings.unwrap_or_else(|found| stop(&found.text)));
     tally
 }
 
@@ -72,5 +87,6 @@ fn main() {
     catch_wrong_reports();
     catch_wrong_nearest();
     catch_wrong_surveys();
+    catch_wrong_crossings();
     print!("{}", compare_with_itself());
 }

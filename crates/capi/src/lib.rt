@@ -17,6 +17,9 @@ use cells::stop_number;
 use cells::strip_in;
 use cells::written_length;
 use cells::written_number;
+use crossings::class_cell;
+use crossings::class_number;
+use crossings::class_of;
 use nearest::near_cells;
 use nearest::nearest;
 use pager::fetch_page;
@@ -30,6 +33,7 @@ use rows::row;
 use survey::cover_records;
 use sweep::make_order;
 use sweep::order_cause;
+use tally::crossing_report;
 use text::read;
 use text::write;
 ghost use mathlib.Core.Path.{_≡_};
@@ -39,7 +43,8 @@ ghost use Rattle.nearest.specs.Nearest.{nearestCall, nearCells};
 ghost use Rattle.sweep.specs.Sweep.{orderCause, makeCause, orderAfter};
 ghost use Rattle.rows.specs.RowCall.{rowCall, rowValues};
 ghost use Rattle.pairs.specs.PairCall.{pairCall, pairValues};
-ghost use Rattle.paging.specs.Calls.{freshCall, pageCause, pageCall, pageTable, runCall, runTable, runValues};
+ghost use Rattle.crossings.specs.ClassCall.{classCall, classValues};
+ghost use Rattle.paging.specs.Calls.{freshCall, pageCause, pageCall, pageTable, runCall, runTable, runValues, crossingCall, crossingTable};
 ghost use Rattle.survey.specs.CoverCall.{coverCause, coverAnswer, coverValues, coverAfter};
 ghost use Rattle.text.specs.Reader.{readCause, readAnswer, cellsAfter};
 ghost use Rattle.text.specs.Writer.{writeCause, writeLength, bufferAfter};
@@ -195,6 +200,50 @@ pub extern "C" fn overlay_run_all(
     let six = *sizes;
     let run = run_all(Shape { k, sizes: six }, cells, order, table);
     *answer = run_cells(run);
+    run_number(run)
+}
+
+// The class of the row that the lent places name in the table of a plan, left in `told`: 17 where they name none. After a
+// refusal it is 0, which is a class too: look at the number first.
+#[no_mangle]
+pub extern "C" fn overlay_row_class(
+    k: u32,
+    sizes: &[u32; 6],
+    cells: &[i32],
+    places: &[u32],
+    told: &mut u32,
+) -> u32
+    ensures number { λ r. ⌜ r ≡ classValues (classCall (shapeOf k (now (sizes .entry))) (now (cells .entry)) (now (places .entry))) .number ⌝ }
+    ensures told { λ _. ⌜ now (told .exit) ≡ classValues (classCall (shapeOf k (now (sizes .entry))) (now (cells .entry)) (now (places .entry))) .class ⌝ }
+{
+    let six = *sizes;
+    let class = class_of(Shape { k, sizes: six }, cells, places);
+    *told = class_cell(class);
+    class_number(class)
+}
+
+// All rows of a plan's table, and how many fall in each class, 0 to 16. The answer's cells are those of a whole run.
+#[no_mangle]
+pub extern "C" fn overlay_crossing_report(
+    k: u32,
+    sizes: &[u32; 6],
+    cells: &[i32],
+    order: &[u32],
+    table: &mut [u32],
+    answer: &mut [u64; 3],
+    counts: &mut [u32; 17],
+) -> u32
+    ensures number { λ r. ⌜ r ≡ runValues (crossingCall (shapeOf k (now (sizes .entry))) (now (cells .entry)) (now (order .entry)) (now (table .entry)) .run) .number ⌝ }
+    ensures answer { λ _. ⌜ now (answer .exit) ≡ runCells (runValues (crossingCall (shapeOf k (now (sizes .entry))) (now (cells .entry)) (now (order .entry)) (now (table .entry)) .run)) ⌝ }
+    ensures counts { λ _. ⌜ now (counts .exit) ≡ crossingCall (shapeOf k (now (sizes .entry))) (now (cells .entry)) (now (order .entry)) (now (table .entry)) .counts ⌝ }
+    ensures table { λ _. ⌜ now (table .exit) ≡ crossingTable (shapeOf k (now (sizes .entry))) (now (cells .entry)) (now (order .entry)) (now (table .entry)) ⌝ }
+{
+    let six = *sizes;
+    let report = crossing_report(Shape { k, sizes: six }, cells, order, table);
+    let run = report.run;
+    let seventeen = report.counts;
+    *answer = run_cells(run);
+    *counts = seventeen;
     run_number(run)
 }
 

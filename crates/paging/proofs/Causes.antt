@@ -69,12 +69,16 @@ call-causes s cells order c table typed = record {
 pub stop-none : (o : Overlay Rect) (c : Cursor) (budget : ℕ) (table : List ℕ) → stopNumber (paged o c budget table .stop) ≡ 0
 stop-none o c budget table = ⊎-elim (λ e. rw e) (⊎-elim (λ e. rw e) (λ e. rw e)) (page-stops rowOf budget (room o table) (listIn (resume o c)))
 
+done-no : {rows probes n : ℕ} {area : Total} → _≡_ {A = Run} (Run.Done rows probes area) (Run.Refused n) → ⊥
+done-no q = let z : _≡_ {A = ℕ} 0 1 = cc in omega arith
+
 pub refuses : (x : Call) → Refuses x
 unfolding freshCall pageCall pageTable runCall runTable
 refuses x = record {
   fresh-number = fresh-told (orderCause (x .shape) (x .cells) (x .order)) _;
   page-number = page-told (served x .cause) (paged (overlay (x .shape) (x .cells)) (x .cursor) (x .budget) (x .table)) (stop-none (overlay (x .shape) (x .cells)) (x .cursor) (x .budget) (x .table));
   run-number = run-told (runCause (x .shape) (x .cells) (x .order) (x .table)) _ _ _;
+  run-done = λ e n q. done-no (rw e at q);
   fresh = λ n e. rw e;
   page = λ n e. (rw e, rw e);
   run = λ n e. (rw e, rw e);

@@ -11,3 +11,4 @@ pub mod Named
 pub mod Causes
 pub mod Runs
 pub mod Theorems
+pub mod TableRows

@@ -4,19 +4,22 @@ use mathlib.Core.List.{List}
 use Prim.Native.Nat.{ℕ, zero, suc, _*_}
 use lib.IntN.{ℤ}
 use lib.Dec.{leb}
-use lib.ListN.{length, drop}
+use lib.ListN.{length, drop, replicate}
 use borrow.Author.Tests.{leb-true, le-leb, lt-leb}
 use Rattle.lists.specs.Lists.{All}
 use Rattle.plan.specs.declared.Shape.{Shape}
-use Rattle.plan.specs.Causes.{unless}
-use Rattle.plan.specs.Plan.{sizesOf, Sound}
+use Rattle.plan.specs.Causes.{unless, onCause}
+use Rattle.plan.specs.Plan.{sizesOf, layers, Sound}
 use Rattle.plan.proofs.Plan.{unless-zero, framed}
 use Rattle.plan.proofs.Theorems.{plans}
 use Rattle.sweep.specs.Sweep.{orderCause}
 use Rattle.totals.proofs.Totals.{value-total}
 use Rattle.paging.specs.Overlays.{overlay}
 use Rattle.paging.specs.Pages.{room}
-use Rattle.paging.specs.Calls.{runCause, runCall, runTable, runValues}
+use Rattle.crossings.specs.ClassCall.{crossingCause, classCounts}
+use Rattle.paging.specs.declared.CrossingReport.{CrossingReport}
+use Rattle.paging.specs.declared.Run.the-variants as Run
+use Rattle.paging.specs.Calls.{runCause, runCall, runTable, runValues, crossingRunCause, crossingCall, crossingTable}
 use Rattle.paging.specs.Theorems.{rowsIn, RunHolds}
 use Rattle.paging.proofs.Overlays.{lawful}
 use Rattle.paging.proofs.Tables.{rows-filled, fill-long, fill-kept}
@@ -36,7 +39,7 @@ module _ (s : Shape) (cells : List ℤ) (order table : List ℕ) (sound : Sound 
   of-k P h = subst P (plans .frames s cells sound .2) h
 
   -- demand 3, of one run
-  pub run-holds : RunHolds s cells order table
+  pub run-holds : RunHolds s cells table (runCause s cells order table) (runValues (runCall s cells order table)) (runTable s cells order table)
   unfolding runCall runTable
   run-holds = record {
     succeeds = rw run-cause (λ e. leb-true n m (unless-zero (leb n m) 6 e), λ h. rw (le-leb n m h));
@@ -56,3 +59,31 @@ module _ (s : Shape) (cells : List ℤ) (order table : List ℕ) (sound : Sound 
       go : (c : ℕ) → runCause s cells order table ≡ c → length (runTable s cells order table) ≡ length table
       go zero e = rw e (fill-long (length (sizesOf s)) table rows-long (leb-true n m (unless-zero (leb n m) 6 (rw run-cause at e))))
       go (suc c) e = rw e
+
+-- ---- the crossing report, where neither 15 nor 16 applies
+module _ (s : Shape) (cells : List ℤ) (order table : List ℕ) (passed : crossingCause s cells ≡ 0) where
+  -- it is refused, answers and fills its table as the run does
+  pub crossing-cause : crossingRunCause s cells order table ≡ runCause s cells order table
+  unfolding crossingRunCause
+  crossing-cause = rw passed
+
+  pub crossing-run : crossingCall s cells order table .run ≡ runCall s cells order table
+  unfolding crossingCall runCall
+  crossing-run = rw crossing-cause (go (runCause s cells order table) refl)
+    where
+      go : (c : ℕ) → runCause s cells order table ≡ c
+          → (onCause {A = CrossingReport} (runCause s cells order table) (record { run = runCall s cells order table; counts = classCounts (layers s cells) (overlay s cells .table) }) (λ n. record { run = Run.Refused n; counts = replicate 17 0 })) .run ≡ runCall s cells order table
+      go zero e = rw e
+      go (suc c) e = rw e
+
+  pub crossing-table : crossingTable s cells order table ≡ runTable s cells order table
+  unfolding crossingTable runTable
+  crossing-table = rw crossing-cause (go (runCause s cells order table) refl)
+    where
+      go : (c : ℕ) → runCause s cells order table ≡ c → onCause (runCause s cells order table) (runTable s cells order table) (λ n. table) ≡ runTable s cells order table
+      go zero e = rw e
+      go (suc c) e = rw e
+
+  pub crossing-holds : Sound s cells → orderCause s cells order ≡ 0
+      → RunHolds s cells table (crossingRunCause s cells order table) (runValues (crossingCall s cells order table .run)) (crossingTable s cells order table)
+  crossing-holds sound o = rw (crossing-cause, crossing-run, crossing-table) (run-holds s cells order table sound o)

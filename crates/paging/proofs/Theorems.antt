@@ -38,7 +38,7 @@ use Rattle.paging.proofs.Chains as Chains
 use Rattle.paging.proofs.Lists.{linked-holds, refused-holds}
 use Rattle.paging.proofs.Lasts.{Declined}
 use Rattle.paging.proofs.Pages.{page-holds}
-use Rattle.paging.proofs.Runs.{run-holds}
+use Rattle.paging.proofs.Runs.{run-holds, crossing-holds}
 
 -- the laws of a sound plan's overlay
 laws : (s : Shape) (cells : List ℤ) → Sound s cells → Lawful (overlay s cells)
@@ -168,4 +168,5 @@ demand3 = record {
   page = page-left;
   paging = paging-holds;
   run = λ s cells order table typed e. run-holds s cells order table (sound-of s cells order typed e) e;
+  crossing = λ s cells order table typed p e. crossing-holds s cells order table p (sound-of s cells order typed e) e;
 }

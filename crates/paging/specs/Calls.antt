@@ -1,14 +1,16 @@
--- What the fresh-cursor call, the page call and the whole run answer (01, "The walk" and "Causes and their numbers").
+-- What the fresh-cursor call, the page call and the whole run answer (01, "The walk" and "Causes and their numbers"), and the crossing report (02, Q-2).
 use mathlib.Core.List.{List, map}
 use Prim.Native.Nat.{ℕ}
 use lib.IntN.{ℤ}
 use lib.Dec.{leb}
-use lib.ListN.{length}
+use lib.ListN.{length, replicate}
 use Rattle.totals.specs.declared.Total.{Total}
 use Rattle.totals.specs.Totals.{totalOf}
 use Rattle.plan.specs.declared.Shape.{Shape}
 use Rattle.plan.specs.Causes.{unless, _orElse_, onCause}
+use Rattle.plan.specs.Plan.{layers}
 use Rattle.sweep.specs.Sweep.{orderCause}
+use Rattle.crossings.specs.ClassCall.{crossingCause, classCounts}
 use Rattle.walk.specs.Walk.{placesOf}
 use Rattle.paging.specs.declared.Cursor.{Cursor}
 use Rattle.paging.specs.declared.Fresh.{Fresh}
@@ -17,6 +19,7 @@ use Rattle.search.specs.declared.Stop.{Stop}
 use Rattle.search.specs.declared.Stop.the-variants.{Ended, Full, Spent, Refused}
 use Rattle.paging.specs.declared.Run.{Run}
 use Rattle.paging.specs.declared.Run.the-variants as Run
+use Rattle.paging.specs.declared.CrossingReport.{CrossingReport}
 use Rattle.paging.specs.Overlays.{overlay}
 use Rattle.paging.specs.Cursors.{endedCursor, dueCursor, resume}
 use Rattle.paging.specs.Pages.{fill, room, paged, areaSum, pageOf}
@@ -78,3 +81,17 @@ pub record RunValues : Type 0 where
 abbrev pub runValues : Run → RunValues
 runValues (Run.Refused cause) = record { number = cause; rows = 0; probes = 0; area = totalOf 0 }
 runValues (Run.Done rows probes area) = record { number = 0; rows = rows; probes = probes; area = area }
+
+-- ---- the crossing report
+-- its checks: 1 to 4, 15 and 16, then the whole run's
+unfoldable pub crossingRunCause : Shape → List ℤ → List ℕ → List ℕ → ℕ
+crossingRunCause s cells order table = crossingCause s cells orElse runCause s cells order table
+
+-- 02: "a whole run that also returns how many rows fall in each class 0 to 16". A refusal returns its number and 0 for all else, the counts too
+unfoldable pub crossingCall : Shape → List ℤ → List ℕ → List ℕ → CrossingReport
+crossingCall s cells order table =
+    onCause (crossingRunCause s cells order table) (record { run = runCall s cells order table; counts = classCounts (layers s cells) (overlay s cells .table) }) (λ n. record { run = Run.Refused n; counts = replicate 17 0 })
+
+-- the table afterwards: that of the whole run, or after a refusal what it was
+unfoldable pub crossingTable : Shape → List ℤ → List ℕ → List ℕ → List ℕ
+crossingTable s cells order table = onCause (crossingRunCause s cells order table) (runTable s cells order table) (λ n. table)

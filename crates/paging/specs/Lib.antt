@@ -3,3 +3,4 @@ pub mod Cursors
 pub mod Pages
 pub mod Calls
 pub mod Theorems
+pub mod TableRows

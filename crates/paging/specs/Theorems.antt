@@ -25,11 +25,13 @@ use Rattle.walk.specs.Walk.{guardAt, walkOf, placesOf}
 use Rattle.walk.specs.Theorems.{WalkIsTable}
 use Rattle.paging.specs.declared.Cursor.{Cursor}
 use Rattle.paging.specs.declared.Page.{Page}
+use Rattle.paging.specs.declared.Run.the-variants as Run
 use Rattle.search.specs.declared.Stop.the-variants.{Ended, Full, Spent, Refused}
 use Rattle.paging.specs.Overlays.{Overlay, overlay}
 use Rattle.paging.specs.Cursors.{cursorOf, endedCursor, dueCursor, resume}
 use Rattle.paging.specs.Pages.{room}
-use Rattle.paging.specs.Calls.{freshCall, stopNumber, pageCause, pageCall, pageTable, runCause, runCall, runTable, runValues}
+use Rattle.paging.specs.Calls.{freshCall, stopNumber, pageCause, pageCall, pageTable, runCause, runCall, runTable, RunValues, runValues, crossingRunCause, crossingCall, crossingTable}
+use Rattle.crossings.specs.ClassCall.{crossingCause}
 
 -- ---- page calls
 -- whatever a call brings
@@ -143,6 +145,8 @@ pub record Refuses (x : Call) : Type 0 where
   pub fresh-number : freshCall (x .shape) (x .cells) (x .order) .number ≡ orderCause (x .shape) (x .cells) (x .order)
   pub page-number : stopNumber (served x .answer .stop) ≡ served x .cause
   pub run-number : runValues (runCall (x .shape) (x .cells) (x .order) (x .table)) .number ≡ runCause (x .shape) (x .cells) (x .order) (x .table)
+  -- an accepted run is told as one
+  pub run-done : runCause (x .shape) (x .cells) (x .order) (x .table) ≡ 0 → (n : ℕ) → runCall (x .shape) (x .cells) (x .order) (x .table) ≡ Run.Refused n → ⊥
   -- all else
   pub fresh : (n : ℕ) → orderCause (x .shape) (x .cells) (x .order) ≡ suc n
       → freshCall (x .shape) (x .cells) (x .order) ≡ record { number = suc n; cursor = record { ended = true; layer = 0; place = 0; filled = 0; chosen = 0 ∷ 0 ∷ 0 ∷ 0 ∷ 0 ∷ []; next = 0 } }
@@ -188,16 +192,17 @@ pub record PagingHolds {S : Type 0} (o : Overlay S) (xs : List Served) : Type 0 
   -- where none comes."
   pub last : (x : Served) → Last xs x → x .answer .cursor ≡ dueCursor (o .sizes) (drop (reported xs) (o .walk))
 
--- 01: plan and order "are sound for the whole run when none of its checks before 7 refuses". "Given a sound plan and order, the whole run succeeds exactly when the table fits, and then hands out all its rows and reports that length."
-pub record RunHolds (s : Shape) (cells : List ℤ) (order table : List ℕ) : Type 0 where
-  pub succeeds : let o = overlay s cells in (runCause s cells order table ≡ 0) ↔ (length (o .table) ≤ room o table)
-  pub rows : runCause s cells order table ≡ 0 → rowsIn (s .k) (runValues (runCall s cells order table) .rows) (runTable s cells order table) ≡ overlay s cells .table
-  pub counts : let o = overlay s cells in let v = runValues (runCall s cells order table) in runCause s cells order table ≡ 0
+-- 01: plan and order "are sound for the whole run when none of its checks before 7 refuses". "Given a sound plan and order, the whole run succeeds exactly when the table fits, and then hands out all its rows and reports that length." Of a run into a
+-- table: the cause that refuses it, what it answered, and its table afterwards
+pub record RunHolds (s : Shape) (cells : List ℤ) (table : List ℕ) (cause : ℕ) (v : RunValues) (after : List ℕ) : Type 0 where
+  pub succeeds : let o = overlay s cells in (cause ≡ 0) ↔ (length (o .table) ≤ room o table)
+  pub rows : cause ≡ 0 → rowsIn (s .k) (v .rows) after ≡ overlay s cells .table
+  pub counts : let o = overlay s cells in cause ≡ 0
       → (v .number ≡ 0) × (v .rows ≡ length (o .table)) × (v .probes ≡ length (o .walk)) × (valueOf (v .area) ≡ sum (map (o .area) (o .table)))
   -- the rest of the table is kept; where the table does not fit, all of it
-  pub long : length (runTable s cells order table) ≡ length table
-  pub kept : let n = s .k * length (overlay s cells .table) in runCause s cells order table ≡ 0 → drop n (runTable s cells order table) ≡ drop n table
-  pub fails : let o = overlay s cells in room o table < length (o .table) → (runValues (runCall s cells order table) ≡ record { number = 7; rows = 0; probes = 0; area = totalOf 0 }) × (runTable s cells order table ≡ table)
+  pub long : length after ≡ length table
+  pub kept : let n = s .k * length (overlay s cells .table) in cause ≡ 0 → drop n after ≡ drop n table
+  pub fails : let o = overlay s cells in room o table < length (o .table) → (v ≡ record { number = 7; rows = 0; probes = 0; area = totalOf 0 }) × (after ≡ table)
 
 pub record Demand3 : Type 0 where
   -- "A plan has one table and one walk, and the rows of the walk are that table, in its order."
@@ -224,4 +229,8 @@ pub record Demand3 : Type 0 where
   -- every list of page calls whose first accepted call brings the fresh cursor, on any plan
   pub paging : (s : Shape) (cells : List ℤ) (xs : List Call) → Typed s → Chain s cells (freshCall s cells (sweepOrder cells) .cursor) xs → PagingHolds (overlay s cells) (map served xs)
   -- the whole run
-  pub run : (s : Shape) (cells : List ℤ) (order table : List ℕ) → Typed s → orderCause s cells order ≡ 0 → RunHolds s cells order table
+  pub run : (s : Shape) (cells : List ℤ) (order table : List ℕ) → Typed s → orderCause s cells order ≡ 0
+      → RunHolds s cells table (runCause s cells order table) (runValues (runCall s cells order table)) (runTable s cells order table)
+  -- 02, Q-2: "In demand 3 the crossing report is given a plan to which neither applies", neither 15 nor 16. Its causes, refusals and class counts: tally, `CrossingReports`
+  pub crossing : (s : Shape) (cells : List ℤ) (order table : List ℕ) → Typed s → crossingCause s cells ≡ 0 → orderCause s cells order ≡ 0
+      → RunHolds s cells table (crossingRunCause s cells order table) (runValues (crossingCall s cells order table .run)) (crossingTable s cells order table)

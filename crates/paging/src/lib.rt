@@ -36,3 +36,9 @@ pub enum Run {
     Refused(u32),
     Done(u32, u64, Total),
 }
+
+// What the crossing report answers: what the whole run does, and how many rows fall in each class, 0 to 16.
+pub struct CrossingReport {
+    pub run: Run,
+    pub counts: [u32; 17],
+}

@@ -1,15 +1,13 @@
 -- Laws of a table's rows on their way to lines.
-use mathlib.Core.Path.{_≡_, sym, ap, _∙_}
+use mathlib.Core.Path.{_≡_, sym, _∙_}
 use mathlib.Core.Bool.{true}
-use mathlib.Core.List.{List, _∷_, _++_}
-use Prim.Native.Nat.{ℕ, suc, _+_, _-_, _≤_, _<_}
+use mathlib.Core.List.{List, _++_}
+use Prim.Native.Nat.{ℕ, _+_, _-_, _≤_, _<_}
 use native.Mathlib.Omega.{arith}
 use lib.IntN.{ℤ}
-use lib.ListN.{length, take, drop, length-take, length-drop}
-use lib.Seq.{drop-drop}
-use Rattle.lists.specs.Lists.{_and_}
-use Rattle.lists.proofs.Tests.{clash, both}
-use Rattle.geometry.specs.Rectangles.{nonempty, areaOf}
+use lib.ListN.{length, take, drop}
+use Rattle.lists.proofs.Tests.{clash}
+use Rattle.geometry.specs.Rectangles.{areaOf}
 use Rattle.plan.specs.Plan.{Layer, layersOf}
 use Rattle.plan.specs.Frames.{Framed}
 use Rattle.plan.proofs.Spots.{layers-long}
@@ -18,15 +16,14 @@ use Rattle.rows.specs.declared.Sharing.{Sharing}
 use Rattle.rows.specs.declared.Sharing.the-variants.{Nothing, Shared}
 use Rattle.rows.specs.Grounds.{groundOf}
 use Rattle.rows.proofs.Answers.{ground-none, ground-small, ground-layer, ground-area}
-use Rattle.join.specs.Join.{rects, commonOf}
-use Rattle.join.specs.Table.{sizesIn}
-use Rattle.rows.specs.RowCall.{fits, isRow}
-use Rattle.rows.proofs.RowCall.{fits-long, sizes-of}
+use Rattle.rows.specs.RowCall.{isRow}
 use Rattle.paging.specs.Theorems.{rowsIn}
+use Rattle.paging.specs.TableRows.{TableRows}
+use Rattle.paging.proofs.TableRows.{Ahead, none-read, rows-split, next-is-row, one-read, row-inside}
 use Rattle.decimal.specs.Stores.{Put}
 use Rattle.decimal.proofs.Stores.{Left, left-all, left-put, left-none}
 use Rattle.printing.specs.Lines.{lineOf, ROW, rowFields, rowLine, rowLines}
-use Rattle.printing.specs.Parts.{AllRows, TableRows, FitsAt}
+use Rattle.printing.specs.Parts.{FitsAt}
 use Rattle.printing.proofs.Puts.{room-left}
 
 -- ---- the ground of a row of the join
@@ -50,66 +47,42 @@ layer-small sizes cells row r g h e f =
     let l = layers-long sizes cells in
     omega (arith, ground-small (layersOf sizes cells) row g (sym f ∙ e) (omega (arith, l, h .some)), l, h .few)
 
--- a row has a place for each layer
-row-long : (sizes : List ℕ) (cells : List ℤ) (row : List ℕ) → isRow (layersOf sizes cells) row ≡ true → length row ≡ length sizes
-unfolding isRow
-row-long sizes cells row e =
-    let ls = layersOf sizes cells in
-    fits-long (sizesIn ls) row (both (fits (sizesIn ls) row) (nonempty (commonOf (rects ls row))) e .0) ∙ ap length (sizes-of sizes cells)
-
 module _ (sizes : List ℕ) (k : ℕ) (cells : List ℤ) (table : List ℕ) (n : ℕ) (first : List ℕ) (from : ℕ) where
   -- the layers
-  abbrev among : List Layer
-  among = layersOf (take k sizes) cells
+  abbrev ours : List Layer
+  ours = layersOf (take k sizes) cells
 
-  -- the first i rows are printed; the others stand from `start` on, and their lines are left to be put at `at`
-  pub record Ahead (buf : List ℕ) (at start i : ℕ) : Type 0 where
-    pub inside : i ≤ n
-    pub rows : AllRows among (rowsIn k (n - i) (drop start table))
-    pub left : Left first from (rowLines among (rowsIn k n table)) buf at (rowLines among (rowsIn k (n - i) (drop start table)))
+  -- the first i rows are printed; the lines of the others, which stand from `start` on, are left to be put at `at`
+  pub record Unprinted (buf : List ℕ) (at start i : ℕ) : Type 0 where
+    pub ahead : Ahead sizes k cells table n start i
+    pub left : Left first from (rowLines ours (rowsIn k n table)) buf at (rowLines ours (rowsIn k (n - i) (drop start table)))
 
-  pub none-yet : TableRows sizes k cells table n → Ahead first from 0 0
+  pub none-yet : TableRows sizes k cells table n → Unprinted first from 0 0
   none-yet h =
       let z : n - 0 ≡ n = omega arith in
-      record { inside = omega arith; rows = rw z (h .all); left = rw z (left-all _ _ _) }
+      record { ahead = none-read sizes k cells table n h; left = rw z (left-all _ _ _) }
 
-  module _ (buf : List ℕ) (at start i : ℕ) (a : Ahead buf at start i) where
-    pub all-printed : n ≤ i → Put first from (rowLines among (rowsIn k n table)) buf at
+  module _ (buf : List ℕ) (at start i : ℕ) (a : Unprinted buf at start i) where
+    pub all-printed : n ≤ i → Put first from (rowLines ours (rowsIn k n table)) buf at
     all-printed h =
         let z : n - i ≡ 0 = omega arith in
         left-none _ _ _ _ _ (rw z at (a .left))
 
     module _ (h : i < n) where
-      -- the row at `start`, and those behind it
-      split : rowsIn k (n - i) (drop start table) ≡ take k (drop start table) ∷ rowsIn k (n - (i + 1)) (drop (start + k) table)
-      split =
-          let e : n - i ≡ suc (n - (i + 1)) = omega arith in
-          rw (e, drop-drop k start table)
+      left : Left first from (rowLines ours (rowsIn k n table)) buf at (rowLine ours (take k (drop start table)) ++ rowLines ours (rowsIn k (n - (i + 1)) (drop (start + k) table)))
+      left = rw (rows-split sizes k cells table n start i h) at (a .left)
 
-      parts : (isRow among (take k (drop start table)) ≡ true) × AllRows among (rowsIn k (n - (i + 1)) (drop (start + k) table))
-      parts = heads (rw split at (a .rows))
-        where
-          heads : {row : List ℕ} {rows : List (List ℕ)} → AllRows among (row ∷ rows) → (isRow among row ≡ true) × AllRows among rows
-          heads (_and_ p ps) = (p, ps)
-
-      left : Left first from (rowLines among (rowsIn k n table)) buf at (rowLine among (take k (drop start table)) ++ rowLines among (rowsIn k (n - (i + 1)) (drop (start + k) table)))
-      left = rw split at (a .left)
-
-      -- it lies in the table
-      pub row-inside : TableRows sizes k cells table n → start + k ≤ length table
-      row-inside r =
-          let e = length-take k sizes in
-          let l = row-long (take k sizes) cells (take k (drop start table)) (parts .0) in
-          omega (arith, e, r .inside, r .framed .some, l, length-take k (drop start table), length-drop start table)
+      pub row-there : TableRows sizes k cells table n → start + k ≤ length table
+      row-there r = row-inside sizes k cells table n start i (a .ahead) h r
 
       module _ (row : List ℕ) (e : row ≡ take k (drop start table)) where
-        pub is-row : isRow among row ≡ true
-        is-row = rw e (parts .0)
+        pub is-row : isRow ours row ≡ true
+        is-row = rw e (next-is-row sizes k cells table n start i (a .ahead) h)
 
-        pub next-row-room : FitsAt first from (rowLines among (rowsIn k n table)) → FitsAt buf at (rowLine among row)
-        next-row-room r = rw e (room-left _ _ _ _ _ (rowLine among (take k (drop start table))) _ r left)
+        pub next-row-room : FitsAt first from (rowLines ours (rowsIn k n table)) → FitsAt buf at (rowLine ours row)
+        next-row-room r = rw e (room-left _ _ _ _ _ (rowLine ours (take k (drop start table))) _ r left)
 
         -- its line is put
-        pub next-row : (last : List ℕ) (r : ℕ) → Put buf at (rowLine among row) last r → Ahead last r (start + k) (i + 1)
+        pub next-row : (last : List ℕ) (r : ℕ) → Put buf at (rowLine ours row) last r → Unprinted last r (start + k) (i + 1)
         next-row last r p =
-            record { inside = omega arith; rows = parts .1; left = left-put _ _ _ _ _ (rowLine among (take k (drop start table))) _ _ _ (rw e at p) left }
+            record { ahead = one-read sizes k cells table n start i (a .ahead) h; left = left-put _ _ _ _ _ (rowLine ours (take k (drop start table))) _ _ _ (rw e at p) left }

@@ -1,31 +1,13 @@
 -- What the functions that put the lines ask of their callers and promise one another; no public call's contract cites it.
-use mathlib.Core.Path.{_≡_}
-use mathlib.Core.Bool.{true}
 use mathlib.Core.List.{List, [], _∷_, _++_}
 use Prim.Native.Nat.{ℕ, _+_, _≤_}
-use lib.IntN.{ℤ}
-use lib.ListN.{length, take}
-use Rattle.lists.specs.Lists.{All}
+use lib.ListN.{length}
 use Rattle.decimal.specs.Numerals.{decimal}
-use Rattle.plan.specs.Plan.{Layer, layersOf}
-use Rattle.plan.specs.Frames.{Framed}
-use Rattle.rows.specs.RowCall.{isRow}
-use Rattle.paging.specs.Theorems.{rowsIn}
 
 -- numbers, each behind its tab
 abbrev pub tabbed : List ℕ → List ℕ
 tabbed [] = []
 tabbed (n ∷ ns) = 9 ∷ decimal n ++ tabbed ns
-
--- each is a row of the join
-abbrev pub AllRows : List Layer → List (List ℕ) → Type 0
-AllRows ls rows = All (λ row. isRow ls row ≡ true) rows
-
--- the first n rows of a table are rows of the first k layers' join
-pub record TableRows (sizes : List ℕ) (k : ℕ) (cells : List ℤ) (table : List ℕ) (n : ℕ) : Type 0 where
-  pub inside : k ≤ length sizes
-  pub framed : Framed (take k sizes) cells
-  pub all : AllRows (layersOf (take k sizes) cells) (rowsIn k n table)
 
 -- a buffer has room for bytes at a place
 pub record FitsAt (buf : List ℕ) (at : ℕ) (bytes : List ℕ) : Type 0 where

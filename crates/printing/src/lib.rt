@@ -2,21 +2,23 @@
 use decimal::put_decimal;
 use decimal::put_word;
 use rows::Sharing;
+use rows::row_at;
 use rows::row_ground;
 use totals::Total;
 ghost use mathlib.Core.Path.{_≡_};
 ghost use mathlib.Core.Bool.{true};
 ghost use mathlib.Core.List.{[], _∷_, _++_};
 ghost use Prim.Native.Nat.{_+_, _%_, _≤_};
-ghost use lib.ListN.{length, take, drop};
+ghost use lib.ListN.{length, take};
 ghost use Rattle.decimal.specs.Numerals.{digits, decimal};
 ghost use Rattle.decimal.specs.Stores.{Put};
 ghost use Rattle.plan.specs.Plan.{layersOf};
 ghost use Rattle.plan.specs.Frames.{Framed};
 ghost use Rattle.rows.specs.RowCall.{isRow};
 ghost use Rattle.paging.specs.Theorems.{rowsIn};
+ghost use Rattle.paging.specs.TableRows.{TableRows};
 ghost use Rattle.printing.specs.Lines.{fieldsEnd, ROW, lineOf, rowFields, rowLine, rowLines, hundredths, squareMetres, totalLine, refusedLine};
-ghost use Rattle.printing.specs.Parts.{tabbed, TableRows, FitsAt};
+ghost use Rattle.printing.specs.Parts.{tabbed, FitsAt};
 
 // A tab and a number; the place behind it.
 fn put_field(buf: &mut [u8], at: usize, n: u64) -> usize
@@ -107,15 +109,6 @@ fn put_joined(
             put_row(buf, at, layer, row, geometry::area(g.common))
         }
     }
-}
-
-// The k cells from a place of the table on.
-fn row_at(table: &[u32], start: usize, k: usize) -> &[u32]
-    requires { ⌜ start + k ≤ length (now table) ⌝ }
-    ensures { λ r. ⌜ (now r ≡ take k (drop start (now (table .entry)))) × (start + k ≤ length (now (table .entry))) ⌝ }
-{
-    let e = start + k;
-    &table[start..e]
 }
 
 // The ROW lines of the first n rows of a table; the place behind them.

@@ -7,16 +7,12 @@ use native.Mathlib.Omega.{arith}
 use lib.IntN.{ℤ}
 use lib.ListN.{length}
 use Rattle.lists.proofs.Tests.{clash}
-use Rattle.lists.proofs.Lists.{all-of-mem}
 use Rattle.totals.specs.declared.Total.{Total}
 use Rattle.plan.specs.declared.Shape.{Shape}
 use Rattle.plan.specs.Causes.{onCause}
 use Rattle.plan.specs.Plan.{sizesOf, layers, Sound}
 use Rattle.sweep.specs.Sweep.{sweepOrder}
-use Rattle.plan.proofs.Plan.{framed}
 use Rattle.join.specs.Table.{tableOf}
-use Rattle.join.proofs.Theorems.{tables}
-use Rattle.rows.proofs.Theorems as Row
 use Rattle.paging.specs.declared.Run.{Run}
 use Rattle.paging.specs.declared.Run.the-variants.{Refused, Done}
 use Rattle.paging.specs.Calls.{runCause, runCall, runTable, runValues}
@@ -24,7 +20,9 @@ use Rattle.paging.specs.Theorems.{rowsIn}
 use Rattle.sweep.proofs.Theorems.{order-passes}
 use Rattle.paging.proofs.Runs.{run-holds}
 use Rattle.printing.specs.Lines.{rowLines, totalLine, refusedLine}
-use Rattle.printing.specs.Parts.{TableRows, FitsAt}
+use Rattle.paging.specs.TableRows.{TableRows}
+use Rattle.paging.proofs.TableRows.{table-rows}
+use Rattle.printing.specs.Parts.{FitsAt}
 use Rattle.reporting.specs.Report.{runTableCells, emptyTable, tableReport, roomForAny}
 use Rattle.reporting.specs.Parts.{RanInto, planReport}
 use Rattle.reporting.proofs.Reports.{same-cause, lines-fit}
@@ -90,10 +88,7 @@ module _ (s : Shape) (cells : List ℤ) (run : Run) (table : List ℕ) (h : RanI
 
     -- what is asked for where the lines are put
     pub rows-run : TableRows (s .sizes) (s .k) cells table rows
-    rows-run =
-        let f = framed s cells (h .sound) in
-        let t = tables .tables (sizesOf s) cells (f .1) in
-        record { inside = f .0; framed = f .1; all = rw (told .read) (all-of-mem (tableOf (sizesOf s) cells) (λ row m. Row.rows .rows s cells (h .sound) .names row .1 (t .is .sound row m))) }
+    rows-run = table-rows s cells table rows (h .sound) (told .read)
 
     pub lines-room : (out : List ℕ) → roomForAny ≤ length out → FitsAt out 0 (rowLines (layers s cells) (rowsIn (s .k) rows table) ++ totalLine rows probes total)
     lines-room out k = rw (told .read) (record { fits = omega (arith, told .short) })

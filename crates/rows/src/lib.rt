@@ -66,6 +66,15 @@ pub fn row_ground(sizes: &[u32], k: usize, cells: &[i32], places: &[u32]) -> Sha
     ground_in(&sizes[..k], cells, places)
 }
 
+// The k cells from a place of the table on.
+pub fn row_at(table: &[u32], start: usize, k: usize) -> &[u32]
+    requires { ⌜ start + k ≤ length (now table) ⌝ }
+    ensures { λ r. ⌜ (now r ≡ take k (drop start (now (table .entry)))) × (start + k ≤ length (now (table .entry))) ⌝ }
+{
+    let e = start + k;
+    &table[start..e]
+}
+
 fn ground_in(sizes: &[u32], cells: &[i32], row: &[u32]) -> Sharing
     requires { ⌜ Framed (now sizes) (now cells) ⌝ }
     ensures { λ r. ⌜ r ≡ groundOf (layersOf (now (sizes .entry)) (now (cells .entry))) (now (row .entry)) ⌝ }

@@ -2,12 +2,12 @@
 use Prim.Native.Nat.{_-_}
 use native.Mathlib.Omega.{arith}
 use borrow.Author.Needs.{needs}
-use Rattle.printing.proofs.Rows.{Ahead, none-yet, row-inside, is-row, next-row-room, next-row, all-printed}
+use Rattle.printing.proofs.Rows.{Unprinted, none-yet, row-there, is-row, next-row-room, next-row, all-printed}
 use Rattle.printing.proofs.put_rows.Statement.{statement}
 use Rattle.printing.proofs.put_rows.Tie as tie
 
 abbrev Inv-loop : tie.InvT-loop
-Inv-loop buf₀ from sizes k cells table n at₀ start₀ i₀ buf at start i = Ahead sizes k cells table n buf₀ from buf at start i
+Inv-loop buf₀ from sizes k cells table n at₀ start₀ i₀ buf at start i = Unprinted sizes k cells table n buf₀ from buf at start i
 
 abbrev μ-loop : tie.MeasureT-loop
 μ-loop buf₀ from sizes k cells table n at₀ start₀ i₀ buf at start i = n - i
@@ -16,7 +16,7 @@ loop-holds : tie.Need-loop-holds Inv-loop μ-loop
 loop-holds c = search none-yet
 
 row-at-requires : tie.Need-row-at-requires Inv-loop μ-loop
-row-at-requires c κs = search (needs, row-inside)
+row-at-requires c κs = search (needs, row-there)
 
 put-joined-requires : tie.Need-put-joined-requires Inv-loop μ-loop
 put-joined-requires c κs = search (needs, is-row, next-row-room)

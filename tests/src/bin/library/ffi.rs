@@ -1,5 +1,6 @@
 //! The library under test through its C interface (include/overlay.h), behind safe functions.
 
+use overlay_tests::crossings::{ClassTold, Crossings, Report};
 use overlay_tests::nearest::{Near, NearestTold};
 use overlay_tests::overlay::{Overlay, Page, PairTold, Reading, RowTold, Run, Shape, Stop, Ticket, Writing};
 use overlay_tests::surveys::{Covered, Survey};
@@ -81,6 +82,27 @@ extern "C" {
         table: *mut u32,
         table_length: usize,
         answer: *mut u64,
+    ) -> u32;
+    fn overlay_row_class(
+        k: u32,
+        sizes: *const u32,
+        cells: *const i32,
+        cells_length: usize,
+        places: *const u32,
+        places_length: usize,
+        told: *mut u32,
+    ) -> u32;
+    fn overlay_crossing_report(
+        k: u32,
+        sizes: *const u32,
+        cells: *const i32,
+        cells_length: usize,
+        order: *const u32,
+        order_length: usize,
+        table: *mut u32,
+        table_length: usize,
+        answer: *mut u64,
+        counts: *mut u32,
     ) -> u32;
     fn overlay_read_text(
         text: *const u8,
@@ -369,5 +391,44 @@ impl Overlay for Library {
             )
         };
         Writing { number, length }
+    }
+}
+
+impl Crossings for Library {
+    fn class(&self, shape: &Shape, cells: &[i32], places: &[u32]) -> ClassTold {
+        let mut class = UNWRITTEN as u32;
+        // SAFETY: every pointer comes from a reference, with its length; the one written to is exclusive.
+        let number = unsafe {
+            overlay_row_class(
+                shape.k,
+                shape.sizes.as_ptr(),
+                cells.as_ptr(),
+                cells.len(),
+                places.as_ptr(),
+                places.len(),
+                &mut class,
+            )
+        };
+        ClassTold { number, class }
+    }
+
+    fn report(&self, shape: &Shape, cells: &[i32], order: &[u32], table: &mut [u32]) -> Report {
+        let (mut answer, mut counts) = ([UNWRITTEN; 3], [UNWRITTEN as u32; 17]);
+        // SAFETY: every pointer comes from a reference, with its length; those written to are exclusive.
+        let number = unsafe {
+            overlay_crossing_report(
+                shape.k,
+                shape.sizes.as_ptr(),
+                cells.as_ptr(),
+                cells.len(),
+                order.as_ptr(),
+                order.len(),
+                table.as_mut_ptr(),
+                table.len(),
+                answer.as_mut_ptr(),
+                counts.as_mut_ptr(),
+            )
+        };
+        Report { run: Run { number, rows: small(answer[0]), trials: answer[1], area: answer[2] }, counts }
     }
 }

@@ -7,6 +7,7 @@ mod report;
 use extras::compare_extras;
 use ffi::{cover_records, Library};
 use overlay_tests::compare::compare;
+use overlay_tests::crossings::{compare_crossings, ByWords};
 use overlay_tests::nearest::{compare_nearest, nearest};
 use overlay_tests::reference::Reference;
 use overlay_tests::surveys::{self, compare_surveys};
@@ -28,6 +29,8 @@ fn main() {
     tally.add("nearest", near);
     let surveys = compare_surveys(&cover_records, &surveys::cover_records);
     tally.add("surveys", surveys.unwrap_or_else(|found| stop(&found.text, tally.cases())));
+    let crossings = compare_crossings(&Library, &ByWords(None));
+    tally.add("crossings", crossings.unwrap_or_else(|found| stop(&found.text, tally.cases())));
     let reports = compare_program().unwrap_or_else(|found| stop(&found.text, tally.cases()));
     tally.add("report program", reports);
     print!("{tally}");

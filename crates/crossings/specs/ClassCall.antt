@@ -1,0 +1,62 @@
+-- The class call (02, Q-2): "takes a plan and a row's cells and returns the class, 17 where they name no row"; its checks 15 and 16; how many rows fall in each class.
+use mathlib.Core.List.{List, [], _∷_}
+use mathlib.Core.Bool.{Bool, true, false, cond, _&&_}
+use Prim.Native.Nat.{ℕ, zero, suc, _-_}
+use lib.IntN.{ℤ}
+use lib.Dec.{eqb, leb}
+use lib.ListN.{length}
+use Rattle.lists.specs.Lists.{each, keep}
+use Rattle.geometry.specs.declared.Rect.{Rect}
+use Rattle.plan.specs.declared.Shape.{Shape}
+use Rattle.plan.specs.Causes.{unless, _orElse_, onCause}
+use Rattle.plan.specs.Plan.{Layer, layers, planCause}
+use Rattle.plan.specs.Spots.{layerAt}
+use Rattle.join.specs.Join.{sameZ}
+use Rattle.rows.specs.RowCall.{isRow}
+use Rattle.crossings.specs.declared.ClassAnswer.{ClassAnswer}
+use Rattle.crossings.specs.declared.ClassAnswer.the-variants.{Refused, NoRow, Class}
+use Rattle.crossings.specs.Crossings.{classIn}
+
+-- ---- the checks
+-- a rectangle is a segment: where level, a horizontal one, whose bottom and top do not differ; else a vertical one, whose left and right do not
+unfoldable pub lies : (level : Bool) → Rect → Bool
+lies level r = cond level (sameZ (r .bottom) (r .top)) (sameZ (r .left) (r .right))
+
+-- the first n rectangles of a layer are such segments
+abbrev pub allLie : (level : Bool) → ℕ → (ℕ → Rect) → Bool
+allLie level zero rect = true
+allLie level (suc n) rect = allLie level n rect && lies level (rect n)
+
+-- all of layer i, counted from 0
+abbrev pub layerLies : (level : Bool) → List Layer → ℕ → Bool
+layerLies level ls i = allLie level (layerAt ls i .size) (layerAt ls i .rect)
+
+-- 16 does not apply: layer k − 1 holds horizontal segments, layer k vertical ones
+unfoldable pub segmented : List Layer → Bool
+segmented ls = layerLies true ls (length ls - 2) && layerLies false ls (length ls - 1)
+
+-- 02: "fewer than three layers, 15; bottom and top differing in layer k − 1, or left and right in layer k, 16; both after 4, in that order"
+unfoldable pub crossingCause : Shape → List ℤ → ℕ
+crossingCause s cells = planCause s cells orElse unless (leb 3 (s .k)) 15 orElse unless (segmented (layers s cells)) 16
+
+-- ---- the class call
+unfoldable pub classCall : Shape → List ℤ → List ℕ → ClassAnswer
+classCall s cells row =
+    let ls = layers s cells in onCause (crossingCause s cells) (cond (isRow ls row) (Class (classIn ls row)) NoRow) (λ n. Refused n)
+
+-- its number and class for each answer; "17 where they name no row" is no refusal
+pub record ClassValues : Type 0 where
+  pub number : ℕ
+  pub class : ℕ
+
+abbrev pub classValues : ClassAnswer → ClassValues
+classValues (Refused cause) = record { number = cause; class = 0 }
+classValues NoRow = record { number = 0; class = 17 }
+classValues (Class class) = record { number = 0; class = class }
+
+-- ---- 02: "how many rows fall in each class 0 to 16"
+abbrev pub countOf : List Layer → List (List ℕ) → ℕ → ℕ
+countOf ls rows class = length (keep (λ row. eqb (classIn ls row) class) rows)
+
+abbrev pub classCounts : List Layer → List (List ℕ) → List ℕ
+classCounts ls rows = each (λ class. countOf ls rows class ∷ []) 0 17

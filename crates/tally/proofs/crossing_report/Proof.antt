@@ -1,0 +1,56 @@
+-- `tally::crossing_report`: a refusal by the checks 1 to 4, 15 and 16, or the run and its report.
+use mathlib.Core.Path.{_≡_, sym, _∙_}
+use Rattle.plan.specs.Plan.{Typed}
+use Rattle.crossings.specs.ClassCall.{crossingCause}
+use Rattle.tally.proofs.Reports.{report-refused, report-made, ran-into}
+use borrow.Author.Needs.{needs}
+use Rattle.tally.proofs.crossing_report.Statement.{statement}
+use Rattle.tally.proofs.crossing_report.Tie as tie
+
+typed : (c : tie.Start) → Typed (c .args .shape)
+typed c = record { sizes = search needs }
+
+passed : (c : tie.Else1) → let a = c .before .before .before .before .args in crossingCause (a .shape) (a .cells .now) ≡ 0
+passed c = sym (c .before .crossing-cause .ensures) ∙ c .if1 .left
+
+crossing-cause-requires : tie.Need-crossing-cause-requires
+crossing-cause-requires c κs = search needs
+
+refused-report-requires : tie.Need-refused-report-requires
+refused-report-requires c κs = search needs
+
+returns : tie.Need-returns
+returns c = let a = c .before .before .before .before .before .args in report-refused (a .shape) (a .cells .now) (a .order .now) (a .table .now) _ (c .before .before .crossing-cause .ensures) (c .before .if1 .taken) _ (c .refused-report .ensures)
+
+run-all-requires : tie.Need-run-all-requires
+run-all-requires c κs = search needs
+
+report-on-requires : tie.Need-report-on-requires
+report-on-requires c κs =
+    let e = c .before .before .before .before .before in
+    let s = e .before .before .before .before in
+    let a = s .args in
+    let r = c .before .before .before .run-all .ensures in
+    ran-into (a .shape) (a .cells .now) (a .order .now) (a .table .now) _ _ (typed s) (passed e) (r .0) (r .1)
+
+same-length : tie.Need-same-length
+same-length c = search needs
+
+returns-2 : tie.Need-returns-2
+returns-2 c =
+    let e = c .before .before .before .before .before .before in
+    let a = e .before .before .before .before .args in
+    let r = c .before .before .before .before .run-all .ensures in
+    report-made (a .shape) (a .cells .now) (a .order .now) (a .table .now) (passed e) _ (r .0) _ (c .report-on .ensures) _ (r .1)
+
+pub crossing-report-spec : {M : Type 1} → statement M
+crossing-report-spec =
+    tie.close
+    (tie.spec
+    crossing-cause-requires
+    refused-report-requires
+    returns
+    run-all-requires
+    report-on-requires
+    same-length
+    returns-2)

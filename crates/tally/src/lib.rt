@@ -1,0 +1,79 @@
+// The crossing report (02: pipes against ducts): a whole run, whose rows are then counted by their class.
+use crossings::crossing_cause;
+use crossings::row_class;
+use pager::run_all;
+use paging::CrossingReport;
+use paging::Run;
+use plan::Shape;
+use rows::row_at;
+ghost use mathlib.Core.Path.{_≡_};
+ghost use Prim.Native.Nat.{_≤_};
+ghost use lib.ListN.{take};
+ghost use Rattle.plan.specs.Plan.{layersOf};
+ghost use Rattle.crossings.specs.ClassCall.{classCounts};
+ghost use Rattle.paging.specs.Theorems.{rowsIn};
+ghost use Rattle.paging.specs.TableRows.{TableRows};
+ghost use Rattle.paging.specs.Calls.{crossingCall, crossingTable};
+ghost use Rattle.tally.specs.Parts.{RanInto, refusedReport, reportOn};
+
+// All rows of a plan's table into a lent table, if they fit, and how many fall in each class.
+pub fn crossing_report(
+    shape: Shape,
+    cells: &[i32],
+    order: &[u32],
+    table: &mut [u32],
+) -> CrossingReport
+    ensures answer { λ r. ⌜ r ≡ crossingCall shape (now (cells .entry)) (now (order .entry)) (now (table .entry)) ⌝ }
+    ensures table { λ _. ⌜ now (table .exit) ≡ crossingTable shape (now (cells .entry)) (now (order .entry)) (now (table .entry)) ⌝ }
+{
+    let cause = crossing_cause(shape, cells);
+    if cause != 0 {
+        return refused_report(cause);
+    }
+    let run = run_all(shape, cells, order, table);
+    report_on(run, shape, cells, table)
+}
+
+fn refused_report(cause: u32) -> CrossingReport
+    ensures { λ r. ⌜ r ≡ refusedReport cause ⌝ }
+{
+    CrossingReport {
+        run: Run::Refused(cause),
+        counts: [0; 17],
+    }
+}
+
+// The report on what the whole run answered, and the table that it left.
+fn report_on(run: Run, shape: Shape, cells: &[i32], table: &[u32]) -> CrossingReport
+    requires { ⌜ RanInto shape (now cells) run (now table) ⌝ }
+    ensures { λ r. ⌜ r ≡ reportOn shape (now (cells .entry)) run ⌝ }
+{
+    match run {
+        Run::Refused(cause) => refused_report(cause),
+        Run::Done(rows, probes, area) => {
+            let counts = count_classes(&shape.sizes, shape.k as usize, cells, table, rows);
+            CrossingReport {
+                run: Run::Done(rows, probes, area),
+                counts,
+            }
+        }
+    }
+}
+
+// How many of the first n rows of a table fall in each class.
+fn count_classes(sizes: &[u32], k: usize, cells: &[i32], table: &[u32], n: u32) -> [u32; 17]
+    requires { ⌜ TableRows (now sizes) k (now cells) (now table) n ⌝ }
+    requires { ⌜ 3 ≤ k ⌝ }
+    ensures { λ r. ⌜ r ≡ classCounts (layersOf (take k (now (sizes .entry))) (now (cells .entry))) (rowsIn k n (now (table .entry))) ⌝ }
+{
+    let mut counts = [0u32; 17];
+    let mut start: usize = 0;
+    let mut i: u32 = 0;
+    while i < n {
+        let class = row_class(sizes, k, cells, row_at(table, start, k)) as usize;
+        counts[class] += 1;
+        start += k;
+        i += 1;
+    }
+    counts
+}
