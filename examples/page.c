@@ -18,6 +18,7 @@ enum { PAGE_CELLS = 40, PAGE_BUDGET = 100 };
 struct plan {
     uint32_t k;
     uint32_t sizes[6];
+    uint32_t margins[6];
     int32_t cells[OVERLAY_MOST_CELLS];
     size_t cells_length;
     uint32_t order[OVERLAY_MOST_RECTS];
@@ -39,7 +40,8 @@ struct table {
 /* Reads a text and makes the order of its plan. */
 static uint32_t read_plan(const uint8_t *text, size_t length, struct plan *plan)
 {
-    uint32_t cause = overlay_read_text(text, length, plan->cells, OVERLAY_MOST_CELLS, &plan->k, plan->sizes);
+    uint32_t cause = overlay_read_text(text, length, plan->cells, OVERLAY_MOST_CELLS,
+                                       &plan->k, plan->sizes, plan->margins);
     if (cause != OVERLAY_CAUSE_NONE)
         return cause;
     /* The calls want as many cells as the plan has, and an order of as many as it has rectangles. */
@@ -47,7 +49,8 @@ static uint32_t read_plan(const uint8_t *text, size_t length, struct plan *plan)
     for (int layer = 0; layer < 6; layer++)
         plan->order_length += plan->sizes[layer];
     plan->cells_length = 4 * plan->order_length;
-    return overlay_make_order(plan->k, plan->sizes, plan->cells, plan->cells_length, plan->order, plan->order_length);
+    return overlay_make_order(plan->k, plan->sizes, plan->margins, plan->cells, plan->cells_length,
+                              plan->order, plan->order_length);
 }
 
 /* Adds the rows of a page to the table. */
@@ -58,7 +61,7 @@ static uint32_t take_rows(const struct plan *plan, const uint32_t *page, uint64_
     for (uint64_t i = 0; i < rows; i++) {
         struct row *row = &table->rows[table->count++];
         memcpy(row->places, page + i * plan->k, plan->k * sizeof *page);
-        uint32_t cause = overlay_row(plan->k, plan->sizes, plan->cells, plan->cells_length,
+        uint32_t cause = overlay_row(plan->k, plan->sizes, plan->margins, plan->cells, plan->cells_length,
                                      row->places, plan->k, row->answer);
         if (cause != OVERLAY_CAUSE_NONE)
             return cause;
@@ -71,12 +74,12 @@ static uint32_t fetch_table(const struct plan *plan, struct table *table)
 {
     uint32_t cursor[OVERLAY_CURSOR_CELLS], page[PAGE_CELLS];
     uint64_t answer[OVERLAY_PAGE_CELLS];
-    uint32_t cause = overlay_fresh_cursor(plan->k, plan->sizes, plan->cells, plan->cells_length,
+    uint32_t cause = overlay_fresh_cursor(plan->k, plan->sizes, plan->margins, plan->cells, plan->cells_length,
                                           plan->order, plan->order_length, cursor);
     if (cause != OVERLAY_CAUSE_NONE)
         return cause;
     do {
-        cause = overlay_fetch_page(plan->k, plan->sizes, plan->cells, plan->cells_length,
+        cause = overlay_fetch_page(plan->k, plan->sizes, plan->margins, plan->cells, plan->cells_length,
                                    plan->order, plan->order_length, cursor, PAGE_BUDGET,
                                    page, PAGE_CELLS, answer);
         if (cause != OVERLAY_CAUSE_NONE)

@@ -29,7 +29,7 @@ int main(int count, char **words)
 {
     static uint8_t text[OVERLAY_MOST_TEXT + 1]; /* one byte more than any plan's text has */
     static int32_t cells[OVERLAY_MOST_CELLS];
-    uint32_t k, sizes[6], places[MOST_PLACES];
+    uint32_t k, sizes[6], margins[6], places[MOST_PLACES];
     uint64_t answer[OVERLAY_PAIR_CELLS];
     size_t given = 0, cells_length = 0;
 
@@ -44,12 +44,12 @@ int main(int count, char **words)
         perror("standard input");
         return 1;
     }
-    uint32_t cause = overlay_read_text(text, length, cells, OVERLAY_MOST_CELLS, &k, sizes);
+    uint32_t cause = overlay_read_text(text, length, cells, OVERLAY_MOST_CELLS, &k, sizes, margins);
     if (cause == OVERLAY_CAUSE_NONE) {
         /* The call wants as many cells as the plan has. */
         for (int layer = 0; layer < 6; layer++)
             cells_length += 4 * (size_t)sizes[layer];
-        cause = overlay_apart_pair(k, sizes, cells, cells_length, places, given, answer);
+        cause = overlay_apart_pair(k, sizes, margins, cells, cells_length, places, given, answer);
     }
     if (cause != OVERLAY_CAUSE_NONE)
         printf("REFUSED\t%" PRIu32 "\n", cause);

@@ -3,6 +3,10 @@
  * Every call returns the number of the first cause that refuses it, or 0. A refusal leaves every buffer as it was and 0 in all cells of an answer; the
  * fresh cursor is then the ended one, and a page leaves its cursor as it was.
  *
+ * A plan is k, six sizes, six margins (those past k are 0) and its cells. Wherever a call compares, sorts or measures a rectangle, it is the one grown
+ * by its layer's margin on all four sides: table, order, pages, guards, areas, pairs, classes and gaps are those of the grown rectangles. Cause 4 and
+ * the text take it as it is. A box is never grown.
+ *
  * No pointer is null, also where its length is 0. A buffer that a call writes to overlaps no other that it is handed.
  *
  * No call allocates or keeps anything: any number of calls may run at once, each with its own buffers to write to; those that are only read may be
@@ -14,18 +18,20 @@
 #include <stdint.h>
 
 /* The version of this interface: another one where a declaration, a number or the order of cells is another, or one comes. */
-#define OVERLAY_VERSION 5
+#define OVERLAY_VERSION 6
 
-/* The largest plan: layers, rectangles, cells, and the bytes of its longest text, which is proved. So much is enough for every plan. */
+/* The largest plan: layers, rectangles, cells, a layer's margin in millimetres, and the bytes of the longest text, which is proved. So much is enough
+ * for every plan. */
 enum {
     OVERLAY_MOST_LAYERS = 6,
     OVERLAY_MOST_RECTS = 3072,
     OVERLAY_MOST_CELLS = 12288,
-    OVERLAY_MOST_TEXT = 126019
+    OVERLAY_MOST_MARGIN = 50000,
+    OVERLAY_MOST_TEXT = 126055
 };
 
 /* The stack that is enough for every call (measured). */
-enum { OVERLAY_STACK_BYTES = 20480 };
+enum { OVERLAY_STACK_BYTES = 131072 };
 
 /* Causes. Each call checks those that it tells in the order in which it names them; 13 is the report program's alone, and there the first. */
 enum overlay_cause {
@@ -39,13 +45,14 @@ enum overlay_cause {
     OVERLAY_CAUSE_ROWS = 7,         /* there are more rows than the table takes */
     OVERLAY_CAUSE_ORDER_LENGTH = 8, /* the order buffer has not one cell for each rectangle */
     OVERLAY_CAUSE_FORM = 9,         /* the text is not well formed */
-    OVERLAY_CAUSE_COUNT = 10,       /* the text is well formed, but miscounted, or 1, 2 or 4 would apply */
+    OVERLAY_CAUSE_COUNT = 10,       /* the text is well formed, but miscounted, or 1, 2, 17 or 4 would apply */
     OVERLAY_CAUSE_ROOM = 11,        /* the text is good, or the records are, but the cells are too few */
     OVERLAY_CAUSE_TEXT_LENGTH = 12, /* the text is longer than the buffer */
     OVERLAY_CAUSE_INPUT = 13,       /* the report's input has more than 65,536 bytes */
     OVERLAY_CAUSE_BOX = 14,         /* the box has left > right, bottom > top or a coordinate out of range */
     OVERLAY_CAUSE_FEW_LAYERS = 15,  /* there are fewer than three layers */
-    OVERLAY_CAUSE_SEGMENTS = 16,    /* bottom and top differ in layer k - 1, or left and right in layer k */
+    OVERLAY_CAUSE_SEGMENTS = 16,    /* bottom and top differ in layer k - 1, or left and right in layer k, or one of the two has a margin above 0 */
+    OVERLAY_CAUSE_MARGINS = 17,     /* a margin is above 50,000, or not 0 past k; told behind 2. Class 17 is OVERLAY_CLASS_NO_ROW */
     OVERLAY_CAUSE_RECORD = 20,      /* the corners are not four a record, or one is not finite, out of order or beyond a million when covered */
     OVERLAY_CAUSE_STRIP = 21,       /* a strip's stop is not finite, its lower one is above its upper one, or its kind is above 3 */
     OVERLAY_CAUSE_PLACES = 23       /* there are not k places, or a place is not in its layer */
@@ -121,61 +128,62 @@ enum {
 extern "C" {
 #endif
 
-/* Judges a plan. Tells 1 to 4. */
-uint32_t overlay_plan_cause(uint32_t k, const uint32_t sizes[6], const int32_t *cells, size_t cells_length);
+/* Judges a plan. Tells 1, 2, 17, 3 and 4. */
+uint32_t overlay_plan_cause(uint32_t k, const uint32_t sizes[6], const uint32_t margins[6], const int32_t *cells,
+                            size_t cells_length);
 
-/* Makes the sweep order of a plan. Tells 1 to 4 and 8. */
-uint32_t overlay_make_order(uint32_t k, const uint32_t sizes[6], const int32_t *cells, size_t cells_length,
-                            uint32_t *order, size_t order_length);
+/* Makes the sweep order of a plan. Tells 1, 2, 17, 3, 4 and 8. */
+uint32_t overlay_make_order(uint32_t k, const uint32_t sizes[6], const uint32_t margins[6], const int32_t *cells,
+                            size_t cells_length, uint32_t *order, size_t order_length);
 
-/* Judges a plan and an order. Tells 1 to 5. */
-uint32_t overlay_order_cause(uint32_t k, const uint32_t sizes[6], const int32_t *cells, size_t cells_length,
-                             const uint32_t *order, size_t order_length);
+/* Judges a plan and an order. Tells 1, 2, 17, 3, 4 and 5. */
+uint32_t overlay_order_cause(uint32_t k, const uint32_t sizes[6], const uint32_t margins[6], const int32_t *cells,
+                             size_t cells_length, const uint32_t *order, size_t order_length);
 
-/* What places name in the table of a plan: layer 0 and area 0 where they are no row, which is no refusal. Tells 1 to 4. */
-uint32_t overlay_row(uint32_t k, const uint32_t sizes[6], const int32_t *cells, size_t cells_length,
-                     const uint32_t *places, size_t places_length, uint64_t answer[2]);
+/* What places name in the table of a plan: layer 0 and area 0 where they are no row, which is no refusal. Tells 1, 2, 17, 3 and 4. */
+uint32_t overlay_row(uint32_t k, const uint32_t sizes[6], const uint32_t margins[6], const int32_t *cells,
+                     size_t cells_length, const uint32_t *places, size_t places_length, uint64_t answer[2]);
 
-/* What lies nearest to a box (left, bottom, right, top) in each layer. Tells 1 to 4 and 14. */
-uint32_t overlay_nearest(uint32_t k, const uint32_t sizes[6], const int32_t *cells, size_t cells_length,
-                         const int32_t around[4], uint64_t answer[18]);
+/* What lies nearest to a box (left, bottom, right, top) in each layer. Tells 1, 2, 17, 3, 4 and 14. */
+uint32_t overlay_nearest(uint32_t k, const uint32_t sizes[6], const uint32_t margins[6], const int32_t *cells,
+                         size_t cells_length, const int32_t around[4], uint64_t answer[18]);
 
 /* The first pair of layers, by its lower and then its higher, whose rectangles at these places do not meet: both layers 0 where all of them share a
- * point, which is no refusal. Tells 1 to 4 and 23. */
-uint32_t overlay_apart_pair(uint32_t k, const uint32_t sizes[6], const int32_t *cells, size_t cells_length,
-                            const uint32_t *places, size_t places_length, uint64_t answer[2]);
+ * point, which is no refusal. Tells 1, 2, 17, 3, 4 and 23. */
+uint32_t overlay_apart_pair(uint32_t k, const uint32_t sizes[6], const uint32_t margins[6], const int32_t *cells,
+                            size_t cells_length, const uint32_t *places, size_t places_length, uint64_t answer[2]);
 
-/* The cursor of the first probe; the ended cursor where there is none, and after a refusal. Tells 1 to 5. */
-uint32_t overlay_fresh_cursor(uint32_t k, const uint32_t sizes[6], const int32_t *cells, size_t cells_length,
-                              const uint32_t *order, size_t order_length, uint32_t cursor[10]);
+/* The cursor of the first probe; the ended cursor where there is none, and after a refusal. Tells 1, 2, 17, 3, 4 and 5. */
+uint32_t overlay_fresh_cursor(uint32_t k, const uint32_t sizes[6], const uint32_t margins[6], const int32_t *cells,
+                              size_t cells_length, const uint32_t *order, size_t order_length, uint32_t cursor[10]);
 
-/* A page from a cursor on, which is left with what is due next. Cells of the table behind the rows keep what they held. Tells 1 to 6. */
-uint32_t overlay_fetch_page(uint32_t k, const uint32_t sizes[6], const int32_t *cells, size_t cells_length,
-                            const uint32_t *order, size_t order_length, uint32_t cursor[10], uint32_t budget,
-                            uint32_t *table, size_t table_length, uint64_t answer[4]);
+/* A page from a cursor on, which is left with what is due next. Cells of the table behind the rows keep what they held. Tells 1, 2, 17, 3, 4, 5 and 6. */
+uint32_t overlay_fetch_page(uint32_t k, const uint32_t sizes[6], const uint32_t margins[6], const int32_t *cells,
+                            size_t cells_length, const uint32_t *order, size_t order_length, uint32_t cursor[10],
+                            uint32_t budget, uint32_t *table, size_t table_length, uint64_t answer[4]);
 
-/* All rows of a plan's table. Cells of the table behind the rows keep what they held. Tells 1 to 5 and 7. */
-uint32_t overlay_run_all(uint32_t k, const uint32_t sizes[6], const int32_t *cells, size_t cells_length,
-                         const uint32_t *order, size_t order_length, uint32_t *table, size_t table_length,
-                         uint64_t answer[3]);
+/* All rows of a plan's table. Cells of the table behind the rows keep what they held. Tells 1, 2, 17, 3, 4, 5 and 7. */
+uint32_t overlay_run_all(uint32_t k, const uint32_t sizes[6], const uint32_t margins[6], const int32_t *cells,
+                         size_t cells_length, const uint32_t *order, size_t order_length, uint32_t *table,
+                         size_t table_length, uint64_t answer[3]);
 
 /* Leaves in `told` the class of the row that places name, for a plan whose layer k - 1 holds horizontal segments and whose layer k holds vertical ones; 0 after a refusal.
- * Tells 1 to 4, 15 and 16. */
-uint32_t overlay_row_class(uint32_t k, const uint32_t sizes[6], const int32_t *cells, size_t cells_length,
-                           const uint32_t *places, size_t places_length, uint32_t *told);
+ * Tells 1, 2, 17, 3, 4, 15 and 16. */
+uint32_t overlay_row_class(uint32_t k, const uint32_t sizes[6], const uint32_t margins[6], const int32_t *cells,
+                           size_t cells_length, const uint32_t *places, size_t places_length, uint32_t *told);
 
-/* All rows of such a plan's table, as overlay_run_all, and how many fall in each class, 0 to 16. Tells 1 to 4, 15, 16, 5 and 7. */
-uint32_t overlay_crossing_report(uint32_t k, const uint32_t sizes[6], const int32_t *cells, size_t cells_length,
-                                 const uint32_t *order, size_t order_length, uint32_t *table, size_t table_length,
-                                 uint64_t answer[3], uint32_t counts[17]);
+/* All rows of such a plan's table, as overlay_run_all, and how many fall in each class, 0 to 16. Tells 1, 2, 17, 3, 4, 15, 16, 5 and 7. */
+uint32_t overlay_crossing_report(uint32_t k, const uint32_t sizes[6], const uint32_t margins[6], const int32_t *cells,
+                                 size_t cells_length, const uint32_t *order, size_t order_length, uint32_t *table,
+                                 size_t table_length, uint64_t answer[3], uint32_t counts[17]);
 
-/* Reads a plan text. k and the sizes are left in theirs, 0 after a refusal; cells behind the plan's keep what they held. Tells 9 to 11. */
+/* Reads a plan text. k, the sizes and the margins are left in theirs, 0 after a refusal; cells behind the plan's keep what they held. Tells 9 to 11. */
 uint32_t overlay_read_text(const uint8_t *text, size_t text_length, int32_t *cells, size_t cells_length,
-                           uint32_t *k, uint32_t sizes[6]);
+                           uint32_t *k, uint32_t sizes[6], uint32_t margins[6]);
 
-/* Writes the text of a plan. Its length is left in `size`, 0 after a refusal; bytes behind it keep what they held. Tells 1 to 4 and 12. */
-uint32_t overlay_write_text(uint32_t k, const uint32_t sizes[6], const int32_t *cells, size_t cells_length,
-                            uint8_t *text, size_t text_length, size_t *size);
+/* Writes the text of a plan. Its length is left in `size`, 0 after a refusal; bytes behind it keep what they held. Tells 1, 2, 17, 3, 4 and 12. */
+uint32_t overlay_write_text(uint32_t k, const uint32_t sizes[6], const uint32_t margins[6], const int32_t *cells,
+                            size_t cells_length, uint8_t *text, size_t text_length, size_t *size);
 
 /* Covers corner records, four corners each: left, bottom, right, top. Those whose extent meets both strips are kept, and the smallest whole rectangles
  * that contain them are left in the first cells, four for each, in their order: a layer of a plan. How many there are is left in `kept`, 0 after a

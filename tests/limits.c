@@ -9,76 +9,77 @@
 
 /* The largest plan, and what the calls put out for it. */
 static uint32_t k = OVERLAY_MOST_LAYERS, sizes[6] = {512, 512, 512, 512, 512, 512};
+static uint32_t margins[6] = {400, 300, 200, 100, 0, 0};
 static int32_t cells[OVERLAY_MOST_CELLS];
 static uint32_t order[OVERLAY_MOST_RECTS], table[OVERLAY_MOST_RECTS], cursor[OVERLAY_CURSOR_CELLS];
 static uint8_t text[OVERLAY_MOST_TEXT];
 static size_t text_length;
 
 /* Each call once, on the largest plan; the pages and the run go over rows of all six layers. Its points are segments too. */
-static uint32_t plan_cause(void) { return overlay_plan_cause(k, sizes, cells, OVERLAY_MOST_CELLS); }
+static uint32_t plan_cause(void) { return overlay_plan_cause(k, sizes, margins, cells, OVERLAY_MOST_CELLS); }
 static uint32_t make_order(void)
 {
-    return overlay_make_order(k, sizes, cells, OVERLAY_MOST_CELLS, order, OVERLAY_MOST_RECTS);
+    return overlay_make_order(k, sizes, margins, cells, OVERLAY_MOST_CELLS, order, OVERLAY_MOST_RECTS);
 }
 static uint32_t order_cause(void)
 {
-    return overlay_order_cause(k, sizes, cells, OVERLAY_MOST_CELLS, order, OVERLAY_MOST_RECTS);
+    return overlay_order_cause(k, sizes, margins, cells, OVERLAY_MOST_CELLS, order, OVERLAY_MOST_RECTS);
 }
 static uint32_t row(void)
 {
     uint64_t answer[OVERLAY_ROW_CELLS];
-    return overlay_row(k, sizes, cells, OVERLAY_MOST_CELLS, table, k, answer);
+    return overlay_row(k, sizes, margins, cells, OVERLAY_MOST_CELLS, table, k, answer);
 }
 static uint32_t nearest(void)
 {
     static const int32_t around[4] = {0, 0, 1, 1};
     uint64_t answer[OVERLAY_NEAREST_CELLS];
-    return overlay_nearest(k, sizes, cells, OVERLAY_MOST_CELLS, around, answer);
+    return overlay_nearest(k, sizes, margins, cells, OVERLAY_MOST_CELLS, around, answer);
 }
 static uint32_t apart_pair(void)
 {
     uint64_t answer[OVERLAY_PAIR_CELLS];
-    return overlay_apart_pair(k, sizes, cells, OVERLAY_MOST_CELLS, table, k, answer);
+    return overlay_apart_pair(k, sizes, margins, cells, OVERLAY_MOST_CELLS, table, k, answer);
 }
 static uint32_t fresh_cursor(void)
 {
-    return overlay_fresh_cursor(k, sizes, cells, OVERLAY_MOST_CELLS, order, OVERLAY_MOST_RECTS, cursor);
+    return overlay_fresh_cursor(k, sizes, margins, cells, OVERLAY_MOST_CELLS, order, OVERLAY_MOST_RECTS, cursor);
 }
 static uint32_t fetch_page(void)
 {
     uint64_t answer[OVERLAY_PAGE_CELLS];
     uint32_t cause;
     do
-        cause = overlay_fetch_page(k, sizes, cells, OVERLAY_MOST_CELLS, order, OVERLAY_MOST_RECTS, cursor, 10000,
-                                   table, OVERLAY_MOST_RECTS, answer);
+        cause = overlay_fetch_page(k, sizes, margins, cells, OVERLAY_MOST_CELLS, order, OVERLAY_MOST_RECTS, cursor,
+                                   10000, table, OVERLAY_MOST_RECTS, answer);
     while (cause == 0 && answer[OVERLAY_PAGE_STOP] != OVERLAY_ENDED);
     return cause;
 }
 static uint32_t run_all(void)
 {
     uint64_t answer[OVERLAY_RUN_CELLS];
-    return overlay_run_all(k, sizes, cells, OVERLAY_MOST_CELLS, order, OVERLAY_MOST_RECTS, table,
+    return overlay_run_all(k, sizes, margins, cells, OVERLAY_MOST_CELLS, order, OVERLAY_MOST_RECTS, table,
                            OVERLAY_MOST_RECTS, answer);
 }
 static uint32_t row_class(void)
 {
     uint32_t told;
-    return overlay_row_class(k, sizes, cells, OVERLAY_MOST_CELLS, table, k, &told);
+    return overlay_row_class(k, sizes, margins, cells, OVERLAY_MOST_CELLS, table, k, &told);
 }
 static uint32_t crossing_report(void)
 {
     uint64_t answer[OVERLAY_RUN_CELLS];
     uint32_t counts[OVERLAY_CLASS_COUNTS];
-    return overlay_crossing_report(k, sizes, cells, OVERLAY_MOST_CELLS, order, OVERLAY_MOST_RECTS, table,
+    return overlay_crossing_report(k, sizes, margins, cells, OVERLAY_MOST_CELLS, order, OVERLAY_MOST_RECTS, table,
                                    OVERLAY_MOST_RECTS, answer, counts);
 }
 static uint32_t write_text(void)
 {
-    return overlay_write_text(k, sizes, cells, OVERLAY_MOST_CELLS, text, OVERLAY_MOST_TEXT, &text_length);
+    return overlay_write_text(k, sizes, margins, cells, OVERLAY_MOST_CELLS, text, OVERLAY_MOST_TEXT, &text_length);
 }
 static uint32_t read_text(void)
 {
-    return overlay_read_text(text, text_length, cells, OVERLAY_MOST_CELLS, &k, sizes);
+    return overlay_read_text(text, text_length, cells, OVERLAY_MOST_CELLS, &k, sizes, margins);
 }
 
 static uint32_t cover_records(void)
@@ -141,19 +142,22 @@ static void measure_all(void)
 
 int main(void)
 {
-    /* Points on a diagonal: one row for each place. Their lefts fall, so that every merge of the order moves them. */
+    /* Points on a diagonal, a metre apart: one row for each place, also with the margins. Their lefts fall, so that every merge of the order moves
+     * them. */
     for (int i = 0; i < OVERLAY_MOST_CELLS; i++)
         cells[i] = 1000000 - 1000 * (i / 4 % 512);
     measure_all();
 
-    /* The longest text. PLAN takes 7 bytes, each of 6 LAYER lines 10, each of 3,072 RECT lines 41: a word of four bytes, four times a tab and
-     * -1000000, and the line end. 7 + 60 + 125,952 = 126,019. */
+    /* The longest text. PLAN takes 7 bytes, each of 6 LAYER lines 16, each of 3,072 RECT lines 41: a word of four bytes, four times a tab and
+     * -1000000, and the line end. 7 + 96 + 125,952 = 126,055. */
     for (int i = 0; i < OVERLAY_MOST_CELLS; i++)
         cells[i] = -1000000;
+    for (int layer = 0; layer < 6; layer++)
+        margins[layer] = OVERLAY_MOST_MARGIN;
     if (write_text() != 0 || text_length != OVERLAY_MOST_TEXT || read_text() != 0)
         failed = 1;
     size_t none;
-    if (overlay_write_text(k, sizes, cells, OVERLAY_MOST_CELLS, text, OVERLAY_MOST_TEXT - 1, &none) != OVERLAY_CAUSE_TEXT_LENGTH)
+    if (overlay_write_text(k, sizes, margins, cells, OVERLAY_MOST_CELLS, text, OVERLAY_MOST_TEXT - 1, &none) != OVERLAY_CAUSE_TEXT_LENGTH)
         failed = 1;
 
     printf("longest text %zu bytes; stack in bytes:", text_length);

@@ -7,8 +7,8 @@ mod hand;
 
 use ffi::Library;
 use overlay_tests::call::Plan;
-use overlay_tests::overlay::{Overlay, Stop, Ticket};
-use overlay_tests::seeds::Seeds;
+use overlay_tests::overlay::{Overlay, Run, Stop, Ticket};
+use overlay_tests::seeds::{grown_by, Seeds};
 use std::hint::black_box;
 use std::time::Instant;
 
@@ -54,17 +54,46 @@ fn pages(mut page: impl FnMut(&Ticket) -> (Stop, Ticket), fresh: Ticket) {
     }
 }
 
-fn bench(name: &str, plan: &Plan) {
+/// The box of which the nearest is asked.
+const AROUND: [i32; 4] = [-300, -200, 300, 400];
+
+/// Both give the same answers and buffers on a plan: its order, its run, and its text.
+fn agree(plan: &Plan) -> (Vec<u32>, Run, Vec<u8>) {
     let (shape, cells) = (&plan.shape, &plan.cells[..]);
     let n = cells.len() / 4;
     let (mut order, mut other) = (vec![0; n], vec![0; n]);
     assert_eq!(Library.make_order(shape, cells, &mut order), hand::make_order(shape, cells, &mut other));
     assert_eq!(order, other);
+    assert_eq!(ffi::order_cause(shape, cells, &order), hand::cause(shape, cells, &order));
 
     let (mut table, mut second) = (vec![0; 6_000_000], vec![0; 6_000_000]);
     let run = Library.run(shape, cells, &order, &mut table);
     assert_eq!(run, hand::run(shape, cells, &order, &mut second));
     assert!(run.number == 0 && table == second);
+    let fresh = Library.fresh(shape, cells, &order).1;
+    let page = Library.page(shape, cells, &order, &fresh, 1_000, &mut table);
+    assert_eq!(page, hand::page(shape, cells, &order, &fresh, 1_000, &mut second));
+    assert!(table == second);
+    assert_eq!(ffi::nearest(shape, cells, AROUND), hand::nearest(shape, cells, AROUND));
+
+    let (mut text, mut copy) = (vec![0; 200_000], vec![0; 200_000]);
+    let size = Library.write(shape, cells, &mut text).length;
+    assert_eq!(size, hand::write(shape, cells, &mut copy).length);
+    assert!(text == copy);
+    text.truncate(size);
+    let (mut into, mut also) = (vec![0; 12_288], vec![0; 12_288]);
+    assert_eq!(Library.read(&text, &mut into), hand::read(&text, &mut also));
+    assert!(into == also);
+    (order, run, text)
+}
+
+fn bench(name: &str, plan: &Plan) {
+    let (shape, cells) = (&plan.shape, &plan.cells[..]);
+    let n = cells.len() / 4;
+    agree(&grown_by(plan.clone(), &[500, 0, 1_500, 700, 3_000, 1][..shape.k as usize]));
+    let (mut order, run, text) = agree(plan);
+    let mut other = vec![0; n];
+    let (mut table, mut second) = (vec![0; 6_000_000], vec![0; 6_000_000]);
     let name = format!("{name}, {} rows", run.rows);
 
     let (ours, rust) = both(
@@ -94,28 +123,21 @@ fn bench(name: &str, plan: &Plan) {
     );
     tell(&name, "checks", ours, rust);
 
-    let around = [-300, -200, 300, 400];
-    assert_eq!(ffi::nearest(shape, cells, around), hand::nearest(shape, cells, around));
     let (ours, rust) = both(
-        || { black_box(ffi::nearest(shape, black_box(cells), around)); },
-        || { black_box(hand::nearest(shape, black_box(cells), around)); },
+        || { black_box(ffi::nearest(shape, black_box(cells), AROUND)); },
+        || { black_box(hand::nearest(shape, black_box(cells), AROUND)); },
     );
     tell(&name, "nearest", ours, rust);
 
-    let (mut text, mut copy) = (vec![0; 200_000], vec![0; 200_000]);
-    let size = Library.write(shape, cells, &mut text).length;
-    assert_eq!(size, hand::write(shape, cells, &mut copy).length);
-    assert!(text == copy);
+    let (mut buffer, mut copy) = (vec![0; 200_000], vec![0; 200_000]);
     let (ours, rust) = both(
-        || { black_box(Library.write(shape, black_box(cells), &mut text)); },
+        || { black_box(Library.write(shape, black_box(cells), &mut buffer)); },
         || { black_box(hand::write(shape, black_box(cells), &mut copy)); },
     );
     tell(&name, "write", ours, rust);
 
-    let text = &text[..size];
+    let text = &text[..];
     let (mut into, mut also) = (vec![0; 12_288], vec![0; 12_288]);
-    assert_eq!(Library.read(text, &mut into), hand::read(text, &mut also));
-    assert!(into == also);
     let (ours, rust) = both(
         || { black_box(Library.read(black_box(text), &mut into)); },
         || { black_box(hand::read(black_box(text), &mut also)); },

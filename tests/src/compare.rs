@@ -1,11 +1,12 @@
 //! Puts thousands of seeded calls to two overlays and compares answers and all lent buffers.
 
 use crate::call::{ask, bytes, cells_i32, cells_u32, same, show, Answer, Call, Plan};
-use crate::known::known_calls;
+use crate::known::{known_calls, known_margins};
 use crate::overlay::{Overlay, Page, Stop, Ticket};
 use crate::reference::{count_rows, each_tuple, join, layers_of, pairs};
 use crate::seeds::{
-    equal_plan, length, order, other_orders, plan_d, plan_from, shape_of, spell, text, tickets, Seeds, STYLES,
+    equal_plan, grown_by, length, order, other_orders, plan_d, plan_from, shape_of, spell, text, tickets,
+    Seeds, DAMAGES, STYLES,
 };
 use std::fmt;
 
@@ -70,7 +71,10 @@ pub fn compare(left: &dyn Overlay, right: &dyn Overlay) -> Result<Tally, Differe
     let mut bench = Bench { left, right, seeds: Seeds(SEED), tally: Tally::default() };
     bench.ground()?;
     for round in 0..ROUNDS {
-        bench.round(round)?;
+        bench.round(round, false)?;
+        if round % 2 == 0 {
+            bench.round(round / 2, true)?;
+        }
         bench.fixed(round)?;
     }
     bench.large()?;
@@ -163,12 +167,15 @@ impl Bench<'_> {
 // ---------------------------------------------------------------- rounds of small plans
 
 impl Bench<'_> {
-    /// Every kind once, on one small plan; k and style go round.
-    fn round(&mut self, round: u64) -> Outcome {
+    /// Every kind once, on one small plan, with or without margins; k and style go round.
+    fn round(&mut self, round: u64, margins: bool) -> Outcome {
         let k = 2 + (round % 5) as usize;
-        let plan = self.seeds.plan(k, round % STYLES);
+        let mut plan = self.seeds.plan(k, round % STYLES);
+        if margins {
+            plan = self.seeds.with_margins(plan);
+        }
         if round % 9 == 8 {
-            self.middle_plan(k, (round / 9) % STYLES)?;
+            self.middle_plan(k, (round / 9) % STYLES, margins)?;
         }
         self.order_maker(&plan)?;
         self.orders(&plan)?;
@@ -184,10 +191,13 @@ impl Bench<'_> {
     }
 
     /// Pages, tickets and runs on a plan of some more rectangles.
-    fn middle_plan(&mut self, k: usize, style: u64) -> Outcome {
+    fn middle_plan(&mut self, k: usize, style: u64, margins: bool) -> Outcome {
         let most = [120, 24, 10, 7, 5][k - 2];
         let sizes: Vec<u32> = (0..k).map(|_| 1 + self.seeds.below(most) as u32).collect();
-        let plan = self.seeds.plan_of(&sizes, style);
+        let mut plan = self.seeds.plan_of(&sizes, style);
+        if margins {
+            plan = self.seeds.with_margins(plan);
+        }
         self.order_maker(&plan)?;
         self.paging(&plan)?;
         self.tickets(&plan)?;
@@ -325,7 +335,7 @@ impl Bench<'_> {
         let (mut plan, mut order, mut ticket) = (plan.clone(), good.to_vec(), *ticket);
         match self.seeds.below(3) {
             0 => {
-                let way = self.seeds.below(8);
+                let way = self.seeds.below(DAMAGES);
                 self.seeds.damage_plan(&mut plan, way);
             }
             1 => order.push(0),
@@ -480,9 +490,11 @@ impl Bench<'_> {
         *text = lines.concat();
     }
 
-    /// Changes the last digit of a line by one.
+    /// Changes the last digit of one number of a line by one.
     fn damage_count(&mut self, line: &mut [u8]) {
-        let at = line.len() - 2;
+        let last = |&at: &usize| line[at].is_ascii_digit() && line[at + 1] < b'0';
+        let digits: Vec<usize> = (0..line.len() - 1).filter(last).collect();
+        let at = self.seeds.pick(&digits);
         line[at] = if self.seeds.once_in(2) { line[at] + 1 } else { line[at] - 1 };
     }
 
@@ -490,11 +502,11 @@ impl Bench<'_> {
     fn unsound_plans(&mut self, plan: &Plan) -> Outcome {
         let good = order(plan);
         let first = tickets(plan).first().copied().unwrap_or(Ticket::ENDED);
-        for way in 0..14 {
+        for way in 0..DAMAGES + 8 {
             let mut unsound = plan.clone();
-            let causes = if way < 8 { 1 } else { 2 + self.seeds.below(3) };
+            let causes = if way < DAMAGES { 1 } else { 2 + self.seeds.below(3) };
             for cause in 0..causes {
-                let pick = if cause == 0 { way % 8 } else { self.seeds.below(8) };
+                let pick = if cause == 0 { way % DAMAGES } else { self.seeds.below(DAMAGES) };
                 self.seeds.damage_plan(&mut unsound, pick);
             }
             self.every_call(&unsound, &good, &first)?;
@@ -550,6 +562,10 @@ const NUMBERS: &[&str] = &[
     "10",
     "512",
     "513",
+    "49999",
+    "50000",
+    "50001",
+    "-50000",
     "999999",
     "1000000",
     "1000001",
@@ -600,69 +616,101 @@ const TEXTS: &[&str] = &[
     " PLAN,2/",
     "PLAN,2 /",
     "PLAN,0/",
-    "PLAN,1/LAYER,0/",
+    "PLAN,1/LAYER,0,0/",
     "PLAN,-2/",
-    "PLAN,-2/LAYER,0/LAYER,0/",
+    "PLAN,-2/LAYER,0,0/LAYER,0,0/",
     "PLAN,9999999/",
     "PLAN,10000000/",
-    "PLAN,2/LAYER,0/",
-    "PLAN,2/LAYER,0/LAYER,0/",
-    "PLAN,2/LAYER,0/LAYER,0",
-    "PLAN,2/LAYER,0/LAYER,0//",
-    "PLAN,2//LAYER,0/LAYER,0/",
-    "/PLAN,2/LAYER,0/LAYER,0/",
-    "PLAN,2/LAYER,0/LAYER,0/LAYER,0/",
-    "PLAN,2/LAYER,0/LAYER,0/PLAN,2/",
-    "PLAN,2/PLAN,2/LAYER,0/LAYER,0/",
-    "LAYER,0/PLAN,2/LAYER,0/",
-    "LAYER,0/LAYER,0/",
-    "PLAN,2/LAYER,0/LAYER,0/PLAN,2/LAYER,0/LAYER,0/",
-    "PLAN,2\r/LAYER,0/LAYER,0/",
-    "PLAN,2/LAYER,0/LAYER,0\r/",
-    "PLAN,2\rLAYER,0\rLAYER,0\r",
-    "PLAN,2/LAYER,0/LAYER,0/ ",
-    "PLAN,2/LAYER,0/LAYER,0/\u{0}",
-    "\u{feff}PLAN,2/LAYER,0/LAYER,0/",
-    "PLAN,2/LAYER,-1/LAYER,0/",
-    "PLAN,2/LAYER,513/LAYER,0/",
-    "PLAN,2/LAYER,1/LAYER,0/",
-    "PLAN,2/LAYER/LAYER,0/",
-    "PLAN,2/LAYER,0,0/LAYER,0/",
-    "PLAN,2/LAYER,0/LAYER,0/RECT,0,0,0,0/",
-    "PLAN,2/RECT,0,0,0,0/LAYER,0/LAYER,0/",
-    "PLAN,2/RECT,0,0,0,0/LAYER,1/LAYER,0/",
+    "PLAN,2/LAYER,0,0/",
+    "PLAN,2/LAYER,0,0/LAYER,0,0/",
+    "PLAN,2/LAYER,0,0/LAYER,0,0",
+    "PLAN,2/LAYER,0,0/LAYER,0,0//",
+    "PLAN,2//LAYER,0,0/LAYER,0,0/",
+    "/PLAN,2/LAYER,0,0/LAYER,0,0/",
+    "PLAN,2/LAYER,0,0/LAYER,0,0/LAYER,0,0/",
+    "PLAN,2/LAYER,0,0/LAYER,0,0/PLAN,2/",
+    "PLAN,2/PLAN,2/LAYER,0,0/LAYER,0,0/",
+    "LAYER,0,0/PLAN,2/LAYER,0,0/",
+    "LAYER,0,0/LAYER,0,0/",
+    "PLAN,2/LAYER,0,0/LAYER,0,0/PLAN,2/LAYER,0,0/LAYER,0,0/",
+    "PLAN,2\r/LAYER,0,0/LAYER,0,0/",
+    "PLAN,2/LAYER,0,0/LAYER,0,0\r/",
+    "PLAN,2\rLAYER,0,0\rLAYER,0,0\r",
+    "PLAN,2/LAYER,0,0/LAYER,0,0/ ",
+    "PLAN,2/LAYER,0,0/LAYER,0,0/\u{0}",
+    "\u{feff}PLAN,2/LAYER,0,0/LAYER,0,0/",
+    "PLAN,2/LAYER,-1,0/LAYER,0,0/",
+    "PLAN,2/LAYER,513,0/LAYER,0,0/",
+    "PLAN,2/LAYER,1,0/LAYER,0,0/",
+    "PLAN,2/LAYER/LAYER,0,0/",
+    "PLAN,2/LAYER,0,0,0/LAYER,0,0/",
+    "PLAN,2/LAYER,0,0/LAYER,0,0/RECT,0,0,0,0/",
+    "PLAN,2/RECT,0,0,0,0/LAYER,0,0/LAYER,0,0/",
+    "PLAN,2/RECT,0,0,0,0/LAYER,1,0/LAYER,0,0/",
     "PLAN,2/RECT,0,0,0,0/",
     "RECT,0,0,0,0/",
-    "PLAN,2/LAYER,1/RECT,0,0,0,0/LAYER,0/",
-    "PLAN,2/LAYER,1/RECT,0,0,0/LAYER,0/",
-    "PLAN,2/LAYER,1/RECT,0,0,0,0,0/LAYER,0/",
-    "PLAN,2/LAYER,1/RECT,0,0,0,0,/LAYER,0/",
-    "PLAN,2/LAYER,1/RECT,,0,0,0,0/LAYER,0/",
-    "PLAN,2/LAYER,1/RECT,0,0,0,0/RECT,0,0,0,0/LAYER,0/",
-    "PLAN,2/LAYER,2/RECT,0,0,0,0/LAYER,0/RECT,0,0,0,0/",
-    "PLAN,2/LAYER,0/LAYER,1/RECT,0,0,0,0/",
-    "PLAN,2/LAYER,1/RECT,1,0,0,0/LAYER,0/",
-    "PLAN,2/LAYER,1/RECT,0,1,0,0/LAYER,0/",
-    "PLAN,2/LAYER,1/RECT,0,0,1000001,0/LAYER,0/",
-    "PLAN,2/LAYER,1/RECT,-1000001,0,0,0/LAYER,0/",
-    "PLAN,2/LAYER,1/RECT,-1000000,-1000000,1000000,1000000/LAYER,0/",
-    "PLAN,3/LAYER,0/LAYER,0/",
-    "PLAN,3/LAYER,0/LAYER,0/LAYER,0/",
-    "PLAN,6/LAYER,0/LAYER,0/LAYER,0/LAYER,0/LAYER,0/LAYER,0/",
-    "PLAN,7/LAYER,0/LAYER,0/LAYER,0/LAYER,0/LAYER,0/LAYER,0/LAYER,0/",
-    "PLAN,2/LAYER,9999999/LAYER,0/x",
+    "PLAN,2/LAYER,1,0/RECT,0,0,0,0/LAYER,0,0/",
+    "PLAN,2/LAYER,1,0/RECT,0,0,0/LAYER,0,0/",
+    "PLAN,2/LAYER,1,0/RECT,0,0,0,0,0/LAYER,0,0/",
+    "PLAN,2/LAYER,1,0/RECT,0,0,0,0,/LAYER,0,0/",
+    "PLAN,2/LAYER,1,0/RECT,,0,0,0,0/LAYER,0,0/",
+    "PLAN,2/LAYER,1,0/RECT,0,0,0,0/RECT,0,0,0,0/LAYER,0,0/",
+    "PLAN,2/LAYER,2,0/RECT,0,0,0,0/LAYER,0,0/RECT,0,0,0,0/",
+    "PLAN,2/LAYER,0,0/LAYER,1,0/RECT,0,0,0,0/",
+    "PLAN,2/LAYER,1,0/RECT,1,0,0,0/LAYER,0,0/",
+    "PLAN,2/LAYER,1,0/RECT,0,1,0,0/LAYER,0,0/",
+    "PLAN,2/LAYER,1,0/RECT,0,0,1000001,0/LAYER,0,0/",
+    "PLAN,2/LAYER,1,0/RECT,-1000001,0,0,0/LAYER,0,0/",
+    "PLAN,2/LAYER,1,0/RECT,-1000000,-1000000,1000000,1000000/LAYER,0,0/",
+    "PLAN,3/LAYER,0,0/LAYER,0,0/",
+    "PLAN,3/LAYER,0,0/LAYER,0,0/LAYER,0,0/",
+    "PLAN,6/LAYER,0,0/LAYER,0,0/LAYER,0,0/LAYER,0,0/LAYER,0,0/LAYER,0,0/",
+    "PLAN,7/LAYER,0,0/LAYER,0,0/LAYER,0,0/LAYER,0,0/LAYER,0,0/LAYER,0,0/LAYER,0,0/",
+    "PLAN,2/LAYER,9999999,0/LAYER,0,0/x",
     "PLAN,9/x/",
-    "PLAN,9/LAYER,0/RECT,1,1,0,0/LAYER,00/",
-    "PLAN,2/LAYER,0/LAYER,0/LAYER,0/RECT",
-    "RECT,0,0,0,0/LAYER,1/PLAN,2/",
+    "PLAN,9/LAYER,0,0/RECT,1,1,0,0/LAYER,00,0/",
+    "PLAN,2/LAYER,0,0/LAYER,0,0/LAYER,0,0/RECT",
+    "RECT,0,0,0,0/LAYER,1,0/PLAN,2/",
     "PLAN,\u{e9}/",
-    "PLAN,2/LAYER,0/LAYER,0/\u{e9}",
-    "PLAN,2/LAYER,0/LAYER,0/# done/",
-    "PLAN,2/LAYERS,0/LAYER,0/",
-    "PLAN,2/LAYE,0/LAYER,0/",
-    "PLAN,2/LAYER,1/RECTS,0,0,0,0/LAYER,0/",
-    "PLAN,2/LAYER,1/REC,0,0,0,0/LAYER,0/",
-    "PLAN,2/LAYER,1/rect,0,0,0,0/LAYER,0/",
+    "PLAN,2/LAYER,0,0/LAYER,0,0/\u{e9}",
+    "PLAN,2/LAYER,0,0/LAYER,0,0/# done/",
+    "PLAN,2/LAYERS,0,0/LAYER,0,0/",
+    "PLAN,2/LAYE,0,0/LAYER,0,0/",
+    "PLAN,2/LAYER,1,0/RECTS,0,0,0,0/LAYER,0,0/",
+    "PLAN,2/LAYER,1,0/REC,0,0,0,0/LAYER,0,0/",
+    "PLAN,2/LAYER,1,0/rect,0,0,0,0/LAYER,0,0/",
+    "PLAN,2/LAYER,0/LAYER,0/",
+    "PLAN,2/LAYER,0,0/LAYER,0/",
+    "PLAN,2/LAYER,0/LAYER,0,0/",
+    "PLAN,2/LAYER,1/RECT,0,0,0,0/LAYER,0/",
+    "PLAN,2/LAYER,0,/LAYER,0,0/",
+    "PLAN,2/LAYER,,0/LAYER,0,0/",
+    "PLAN,2/LAYER,0,,0/LAYER,0,0/",
+    "PLAN,2/LAYER,0,0,/LAYER,0,0/",
+    "PLAN,2/LAYER,0 0/LAYER,0,0/",
+    "PLAN,2/LAYER,0,-0/LAYER,0,0/",
+    "PLAN,2/LAYER,0,00/LAYER,0,0/",
+    "PLAN,2/LAYER,0,0500/LAYER,0,0/",
+    "PLAN,2/LAYER,0,+1/LAYER,0,0/",
+    "PLAN,2/LAYER,0,1/LAYER,0,0/",
+    "PLAN,2/LAYER,1,0/LAYER,0,1/",
+    "PLAN,2/LAYER,0,1/RECT,0,0,0,0/LAYER,0,0/",
+    "PLAN,2/LAYER,1,2/RECT,0,0,0,0/LAYER,0,50000/",
+    "PLAN,2/LAYER,1,50000/RECT,-1000000,-1000000,1000000,1000000/LAYER,1,50000/RECT,0,0,0,0/",
+    "PLAN,2/LAYER,1,50000/RECT,-1000001,0,0,0/LAYER,0,0/",
+    "PLAN,2/LAYER,1,1/RECT,1,0,0,0/LAYER,0,0/",
+    "PLAN,2/LAYER,1,49999/RECT,0,0,0,0/LAYER,0,49999/",
+    "PLAN,2/LAYER,1,50001/RECT,0,0,0,0/LAYER,0,0/",
+    "PLAN,2/LAYER,1,0/RECT,0,0,0,0/LAYER,0,50001/",
+    "PLAN,2/LAYER,1,-1/RECT,0,0,0,0/LAYER,0,0/",
+    "PLAN,2/LAYER,0,0/LAYER,0,-50000/",
+    "PLAN,2/LAYER,0,-9999999/LAYER,0,9999999/",
+    "PLAN,2/LAYER,0,10000000/LAYER,0,0/",
+    "PLAN,2/LAYER,0,-1/LAYER,0,0",
+    "PLAN,2/LAYER,0,50001/LAYER,0/",
+    "PLAN,2/LAYER,0,0/LAYER,0,0/LAYER,0,1/",
+    "PLAN,6/LAYER,0,1/LAYER,0,2/LAYER,0,3/LAYER,0,4/LAYER,0,5/LAYER,0,6/",
+    "PLAN,6/LAYER,0,1/LAYER,0,2/LAYER,0,3/LAYER,0,4/LAYER,0,5/LAYER,0,60000/",
 ];
 
 /// A plan whose chosen places may all meet the guard and yet have nothing in common.
@@ -701,7 +749,7 @@ impl Bench<'_> {
     /// The calls whose answers the paper gives, put to both; a difference shows what is due as the right one.
     fn known(&mut self) -> Outcome {
         let kind = "known answers";
-        for known in known_calls() {
+        for known in known_calls().into_iter().chain(known_margins()) {
             for overlay in [self.left, self.right] {
                 let mut lent = known.call.clone();
                 let told = ask(&mut lent, overlay);
@@ -735,10 +783,19 @@ impl Bench<'_> {
             9 => self.every_byte(&text(&plan_d()), USUAL),
             10 => self.every_byte(&text(&plan_from(&[&[[-1_000_000, -99, 7, 1_000_000]], &[], &[]])), USUAL),
             11 => self.every_byte(
-                &spell("PLAN,2/LAYER,1/RECT,-1,0,23,4/LAYER,0/"),
+                &spell("PLAN,2/LAYER,1,0/RECT,-1,0,23,4/LAYER,0,0/"),
                 &(0..=255).collect::<Vec<u8>>(),
             ),
             12 => self.pair_box(),
+            13 => self.margin_box(),
+            14 => self.margin_limits(),
+            15 => self.far_out(),
+            16 => self.every_byte(
+                &spell("PLAN,2/LAYER,1,50000/RECT,-1,0,23,4/LAYER,0,9/"),
+                &(0..=255).collect::<Vec<u8>>(),
+            ),
+            17 => self.ticket_box(&grown_by(halves(), &[1])),
+            18 => self.ticket_box(&grown_by(halves(), &[0, 1, 1, 0])),
             _ => Ok(()),
         }
     }
@@ -753,9 +810,9 @@ impl Bench<'_> {
         Ok(())
     }
 
-    /// Every number of plan D's text replaced by each of many others.
+    /// Every number of plan D's text, with margins, replaced by each of many others.
     fn number_texts(&mut self) -> Outcome {
-        let text = String::from_utf8(text(&plan_d())).expect("a text is plain");
+        let text = String::from_utf8(text(&grown_by(plan_d(), &[1_500, 3]))).expect("a text is plain");
         let parts: Vec<&str> = text.split_inclusive(['\t', '\n']).collect();
         for (at, part) in parts.iter().enumerate() {
             let end = &part[part.len() - 1..];
@@ -897,6 +954,86 @@ impl Bench<'_> {
     }
 }
 
+// ---------------------------------------------------------------- margins (02, Q-4)
+
+impl Bench<'_> {
+    /// All calls on a sound plan.
+    fn whole_plan(&mut self, kind: &'static str, plan: &Plan) -> Outcome {
+        let (good, n) = (order(plan), plan.cells.len() / 4);
+        self.ask_order(kind, plan, n)?;
+        self.ask_run(kind, plan, &good, 600)?;
+        let fresh = self.ask_fresh(kind, plan, &good)?;
+        let page = self.ask_page(kind, plan, &good, &fresh, (2, 600))?;
+        self.ask_page(kind, plan, &good, &page.ticket, (u32::MAX, 600))?;
+        self.ask_row(kind, plan, &[0; 6][..plan.shape.k as usize])?;
+        self.ask_pair(kind, plan, &[0; 6][..plan.shape.k as usize])?;
+        self.ask_write(kind, plan, 700)?;
+        self.ask_read(kind, &text(plan), plan.cells.len() + 4)
+    }
+
+    /// Every pair of layers as the only one that does not meet as drawn, with margins that just close the gap, leave a millimetre of it, or pass it.
+    fn margin_box(&mut self) -> Outcome {
+        for k in 2..=6 {
+            for (i, j) in pairs(k) {
+                for gap in [1, 2, 9, 3_000, 99_999, 100_000] {
+                    for (flip, less) in [(false, 0), (true, 0), (false, 1), (true, 1), (true, -1)] {
+                        let sum = (gap - less).min(100_000) as u32;
+                        let axis = if (i + j) % 2 == 0 { [(i, j), (k, k)] } else { [(k, k), (i, j)] };
+                        let plan = parted(k, axis, [flip; 2], gap);
+                        for share in [0, 1, sum / 2, sum / 2 + 1, sum] {
+                            let mut margins = [0; 6];
+                            margins[i] = share.clamp(sum.saturating_sub(50_000), sum.min(50_000));
+                            margins[j] = sum - margins[i];
+                            self.whole_plan("margins", &grown_by(plan.clone(), &margins))?;
+                        }
+                    }
+                }
+            }
+        }
+        Ok(())
+    }
+
+    /// 50,000 is a margin, 50,001 is none, at every layer and past k; 17 stands behind 1 and 2 and before 3 and 4.
+    fn margin_limits(&mut self) -> Outcome {
+        for k in 2..=6 {
+            let sound = equal_plan(&[1; 6][..k], [-3, 0, 4, 1]);
+            for layer in 0..6 {
+                for margin in [1, 49_999, 50_000, 50_001, 1 << 16, 1 << 31, u32::MAX - 49_999, u32::MAX] {
+                    let mut plan = sound.clone();
+                    plan.shape.margins[layer] = margin;
+                    let identity: Vec<u32> = (0..k as u32).collect();
+                    self.every_call(&plan, &identity, &Ticket::ENDED)?;
+                    for damage in [0, 2, 3, 4, 5, 6, 7] {
+                        let mut worse = plan.clone();
+                        self.seeds.damage_plan(&mut worse, damage);
+                        self.every_call(&worse, &identity, &Ticket::ENDED)?;
+                    }
+                }
+            }
+        }
+        Ok(())
+    }
+
+    /// Rectangles at the ends of the range, which grow past it; among them the largest area.
+    fn far_out(&mut self) -> Outcome {
+        let most = 1_000_000;
+        let all = [-most, -most, most, most];
+        for k in 2..=6 {
+            for margins in [[50_000; 6], [0, 50_000, 0, 50_000, 0, 50_000], [1; 6], [50_000, 1, 2, 3, 4, 5]] {
+                let margins = &margins[..k];
+                self.whole_plan("margins", &grown_by(equal_plan(&[1; 6][..k], all), margins))?;
+                self.whole_plan("margins", &grown_by(equal_plan(&[2; 6][..k], [most; 4]), margins))?;
+                self.whole_plan("margins", &grown_by(equal_plan(&[2; 6][..k], [-most; 4]), margins))?;
+                for _ in 0..20 {
+                    let plan = self.seeds.plan(k, 3);
+                    self.whole_plan("margins", &grown_by(plan, margins))?;
+                }
+            }
+        }
+        Ok(())
+    }
+}
+
 // ---------------------------------------------------------------- large plans
 
 impl Bench<'_> {
@@ -919,6 +1056,8 @@ impl Bench<'_> {
             let sizes = [200 + self.seeds.below(313) as u32, 512];
             let plan = self.seeds.plan_of(&sizes, style);
             self.large_plan(&plan)?;
+            let grown = self.seeds.with_margins(plan);
+            self.large_plan(&grown)?;
         }
         for (sizes, side) in [
             (vec![512, 512], 100_000),
@@ -933,6 +1072,7 @@ impl Bench<'_> {
         ] {
             let plan = self.seeds.sparse(&sizes, side);
             self.large_plan(&plan)?;
+            self.large_plan(&grown_by(plan, &[500, 0, 5_000, 1_500, 0, 3_000][..sizes.len()]))?;
         }
         let dense = equal_plan(&[400, 400, 400], [0, 0, 1_000_000, 1_000_000]);
         self.ask_run("large plans", &dense, &order(&dense), 3_000_000)

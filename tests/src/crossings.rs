@@ -4,10 +4,9 @@ use crate::call::{cells_u32, Plan};
 use crate::compare::Difference;
 use crate::overlay::{Overlay, Run, Shape};
 use crate::reference::{
-    intersection, is_empty, join, layers_of, order_fault, plan_fault, refused_run, row_of, Layers, Rect,
-    Reference,
+    intersection, is_empty, join, layers_of, plan_fault, refused_run, row_of, ungrown, Rect, REFERENCE,
 };
-use crate::seeds::{order, other_orders, plan_from, Seeds, STYLES};
+use crate::seeds::{grown_by, order, other_orders, plan_from, Seeds, DAMAGES, STYLES};
 
 /// How many plans of segments are drawn.
 const PLANS: u64 = 600;
@@ -51,10 +50,15 @@ pub enum Slip {
     OrderFirst,
     CountsOfRefused,
     LastClassLost,
+    EndsUngrown,
+    MarginTaken,
+    EmptyMarginTaken,
+    MarginAnywhere,
+    MarginBeforeLayers,
 }
 
 /// Every slip with its name.
-pub const SLIPS: [(Slip, &str); 11] = [
+pub const SLIPS: [(Slip, &str); 16] = [
     (Slip::OpenEdges, "an end on an edge is not covered"),
     (Slip::EndsExchanged, "the left and the right end are exchanged"),
     (Slip::Largest, "the class is the largest number"),
@@ -66,6 +70,11 @@ pub const SLIPS: [(Slip, &str); 11] = [
     (Slip::OrderFirst, "5 is told before 15 and 16"),
     (Slip::CountsOfRefused, "a report that 7 refuses has counts"),
     (Slip::LastClassLost, "the last row is not counted"),
+    (Slip::EndsUngrown, "an end is covered by rectangles as they are drawn"),
+    (Slip::MarginTaken, "a margin on a segment layer is taken"),
+    (Slip::EmptyMarginTaken, "a margin on an empty segment layer is taken"),
+    (Slip::MarginAnywhere, "16 for a margin on any layer"),
+    (Slip::MarginBeforeLayers, "16 for a margin before 15"),
 ];
 
 /// The calls from 02's words, or a wrong version of them.
@@ -112,25 +121,39 @@ impl ByWords {
         found.copied().unwrap_or(0)
     }
 
-    /// The rectangles that places name.
-    fn rects(layers: &Layers, places: &[u32]) -> Vec<Rect> {
+    /// The rectangles that places name, as their ends are looked for.
+    fn rects(&self, shape: &Shape, cells: &[i32], places: &[u32]) -> Vec<Rect> {
+        let layers = if self.slips(Slip::EndsUngrown) { ungrown } else { layers_of }(shape, cells);
         layers.iter().zip(places).map(|(layer, &place)| layer[place as usize]).collect()
     }
 
-    /// "fewer than three layers, 15; bottom and top differing in layer k − 1, or left and right in layer k, 16; both after 4, in that order".
+    /// "a margin above 0 on a segment layer".
+    fn margin_on_segments(&self, shape: &Shape) -> bool {
+        let k = shape.k as usize;
+        let above =
+            |j: usize| shape.margins[j] > 0 && (shape.sizes[j] > 0 || !self.slips(Slip::EmptyMarginTaken));
+        let first = if self.slips(Slip::MarginAnywhere) { 0 } else { k - 2 };
+        (first..k).any(above) && !self.slips(Slip::MarginTaken)
+    }
+
+    /// "fewer than three layers, 15; bottom and top differing in layer k − 1, or left and right in layer k, 16; both after 4, in that order", and
+    /// "a margin above 0 on a segment layer is 16". A layer's rectangles are all grown alike.
     fn fault(&self, shape: &Shape, cells: &[i32]) -> u32 {
         let fault = plan_fault(shape, cells);
         if fault != 0 {
             return fault;
         }
         let k = shape.k as usize;
+        if self.slips(Slip::MarginBeforeLayers) && self.margin_on_segments(shape) {
+            return 16;
+        }
         if k < 3 && !self.slips(Slip::TwoLayers) {
             return 15;
         }
-        let layers = layers_of(shape, cells);
+        let layers = ungrown(shape, cells);
         let level = layers[k - 2].iter().all(|r| r.bottom == r.top);
         let upright = self.slips(Slip::AnyRectangle) || layers[k - 1].iter().all(|r| r.left == r.right);
-        if level && upright {
+        if level && upright && !self.margin_on_segments(shape) {
             0
         } else {
             16
@@ -147,7 +170,7 @@ impl Crossings for ByWords {
         let layers = layers_of(shape, cells);
         let none = if self.slips(Slip::NoRowZero) { 0 } else { 17 };
         let class = match row_of(&layers, places) {
-            Some(_) => self.class_of(&Self::rects(&layers, places)),
+            Some(_) => self.class_of(&self.rects(shape, cells, places)),
             None => none,
         };
         ClassTold { number: 0, class }
@@ -155,23 +178,22 @@ impl Crossings for ByWords {
 
     fn report(&self, shape: &Shape, cells: &[i32], order: &[u32], table: &mut [u32]) -> Report {
         let mut number = self.fault(shape, cells);
-        if self.slips(Slip::OrderFirst) && order_fault(shape, cells, order) == 5 {
+        if self.slips(Slip::OrderFirst) && REFERENCE.order_fault(shape, cells, order) == 5 {
             number = 5;
         }
         if number != 0 {
             return Report { run: refused_run(number), counts: [0; 17] };
         }
-        let run = Reference.run(shape, cells, order, table);
+        let run = REFERENCE.run(shape, cells, order, table);
         let mut counts = [0; 17];
         if run.number == 0 || self.slips(Slip::CountsOfRefused) {
-            let layers = layers_of(shape, cells);
-            let mut rows = join(&layers);
+            let mut rows = join(&layers_of(shape, cells));
             if self.slips(Slip::LastClassLost) {
                 rows.pop();
             }
             for row in rows {
                 let places = &row.places[..shape.k as usize];
-                counts[self.class_of(&Self::rects(&layers, places)) as usize] += 1;
+                counts[self.class_of(&self.rects(shape, cells, places)) as usize] += 1;
             }
         }
         Report { run, counts }
@@ -218,6 +240,23 @@ fn made(k: usize, class: usize) -> Plan {
     let mut layers: Vec<[[i32; 4]; 1]> = (1..=k - 2).map(|j| [rect(j)]).collect();
     layers.extend([[[0, 5, 10, 5]], [[5, 0, 5, 10]]]);
     plan_from(&layers.iter().map(<[_; 1]>::as_slice).collect::<Vec<_>>())
+}
+
+/// The plan with the rectangles of layers 1 to k - 2 drawn smaller by a millimetre and given back by a margin of 1: nothing else changes.
+fn drawn_smaller(mut plan: Plan) -> Plan {
+    let k = plan.shape.k as usize;
+    let others = plan.shape.sizes[..k - 2].iter().sum::<u32>() as usize;
+    for r in plan.cells.chunks_mut(4).take(others) {
+        r.copy_from_slice(&[r[0] + 1, r[1] + 1, r[2] - 1, r[3] - 1]);
+    }
+    grown_by(plan, &[1; 4][..k - 2])
+}
+
+/// The plan with small margins on the layers of rectangles, and on no others.
+fn with_margins(seeds: &mut Seeds, mut plan: Plan) -> Plan {
+    let k = plan.shape.k as usize;
+    plan.shape.margins[..k - 2].fill_with(|| seeds.pick(&[0, 0, 1, 2, 50_000]));
+    plan
 }
 
 /// The example of the manual, and the first of its counts.
@@ -312,20 +351,30 @@ pub fn compare_crossings(left: &dyn Crossings, right: &dyn Crossings) -> Result<
     bench.plan(&mut seeds, &plan)?;
     for k in 3..=6 {
         for class in 0..=4 * (k - 2) {
-            bench.plan(&mut seeds, &made(k, class))?;
+            let plan = made(k, class);
+            bench.plan(&mut seeds, &plan)?;
+            bench.plan(&mut seeds, &drawn_smaller(plan))?;
         }
     }
     for round in 0..PLANS {
         let k = 3 + (round % 4) as usize;
         let plan = drawn(&mut seeds, k);
+        let plan = if round % 2 == 1 { with_margins(&mut seeds, plan) } else { plan };
         bench.plan(&mut seeds, &plan)?;
         let good = order(&plan);
-        for way in 0..8 {
+        for way in 0..DAMAGES {
             let mut unsound = plan.clone();
             seeds.damage_plan(&mut unsound, way);
             bench.refused(&mut seeds, &unsound, &good)?;
         }
+        for segments in [k - 2, k - 1] {
+            let mut wide = plan.clone();
+            wide.shape.margins[segments] = seeds.pick(&[1, 50_000, 50_001]);
+            bench.refused(&mut seeds, &wide, &good)?;
+        }
         let any = seeds.plan(2 + (round % 5) as usize, round % STYLES);
+        bench.refused(&mut seeds, &any, &order(&any))?;
+        let any = seeds.with_margins(any);
         bench.refused(&mut seeds, &any, &order(&any))?;
     }
     assert!(bench.seen.iter().all(|&times| times > 0), "classes seen: {:?}", bench.seen);

@@ -1,7 +1,7 @@
 //! Calls and reports whose answers the paper gives, in plain numbers and bytes: every overlay is held to them.
 
 use crate::call::{Answer, Call, Plan};
-use crate::overlay::{PairTold, RowTold, Shape};
+use crate::overlay::{PairTold, Reading, RowTold, Shape, Writing};
 use crate::seeds::spell;
 
 /// The cells of plan D: two rectangles, and one that overlaps the first and touches the second.
@@ -26,7 +26,15 @@ pub struct KnownReport {
 
 /// Plan D with this k and these two sizes.
 fn shaped(k: u32, first: u32, second: u32) -> Plan {
-    Plan { shape: Shape { k, sizes: [first, second, 0, 0, 0, 0] }, cells: D.to_vec() }
+    let sizes = [first, second, 0, 0, 0, 0];
+    Plan { shape: Shape { k, sizes, margins: [0; 6] }, cells: D.to_vec() }
+}
+
+/// A plan with these margins of its first layers.
+fn grown(plan: Plan, margins: &[u32]) -> Plan {
+    let mut shape = plan.shape;
+    shape.margins[..margins.len()].copy_from_slice(margins);
+    Plan { shape, ..plan }
 }
 
 /// Plan D with one coordinate replaced.
@@ -67,7 +75,31 @@ fn in_a_line(lefts: &[i32]) -> Plan {
     let mut sizes = [0; 6];
     sizes[..lefts.len()].fill(1);
     let cells = lefts.iter().flat_map(|&left| [left, 0, left + 10, 10]).collect();
-    Plan { shape: Shape { k: lefts.len() as u32, sizes }, cells }
+    Plan { shape: Shape { k: lefts.len() as u32, sizes, margins: [0; 6] }, cells }
+}
+
+/// A reading into twelve cells that are all 7: its number, the sizes and margins of two layers, and the cells afterwards; k is 0 after a refusal.
+fn reading(name: &'static str, text: &str, told: (u32, [u32; 2], [u32; 2]), after: &[i32]) -> KnownCall {
+    let (number, sizes, margins) = told;
+    let six = |two: [u32; 2]| [two[0], two[1], 0, 0, 0, 0];
+    let shape = Shape { k: if number == 0 { 2 } else { 0 }, sizes: six(sizes), margins: six(margins) };
+    let mut cells = vec![7; 12];
+    let call = Call::Read { text: spell(text), cells: cells.clone() };
+    cells[..after.len()].copy_from_slice(after);
+    KnownCall {
+        name,
+        call,
+        answer: Answer::Read(Reading { number, shape }),
+        after: Call::Read { text: spell(text), cells },
+    }
+}
+
+/// A writing into as many bytes as the text has, all 7.
+fn writing(name: &'static str, plan: Plan, text: &str) -> KnownCall {
+    let (length, text) = (text.len(), spell(text));
+    let call = Call::Write { plan: plan.clone(), text: vec![7; length] };
+    let answer = Answer::Write(Writing { number: 0, length });
+    KnownCall { name, call, answer, after: Call::Write { plan, text } }
 }
 
 /// Order maker, row call and pair call on plan D, and each of their causes by the smallest change of plan D that has it.
@@ -113,6 +145,54 @@ pub fn known_calls() -> Vec<KnownCall> {
     ]
 }
 
+/// Calls with margins, and each side of check 17.
+pub fn known_margins() -> Vec<KnownCall> {
+    let d = || shaped(2, 2, 1);
+    let most = |k: usize| {
+        let mut plan = in_a_line(&[0; 6][..k]);
+        plan.cells = [-1_000_000, -1_000_000, 1_000_000, 1_000_000].repeat(k);
+        grown(plan, &[50_000; 6][..k])
+    };
+    let two = "PLAN,2/LAYER,1,1500/RECT,-3,-2,5,4/LAYER,0,20/";
+    vec![
+        order("a tie of lefts made by growing, the lowest layer first", grown(d(), &[0, 500]), 0, &[0, 2, 1]),
+        order("a left a millimetre before another by growing", grown(d(), &[0, 501]), 0, &[2, 0, 1]),
+        order("a tie of lefts made by growing both", grown(d(), &[1, 501]), 0, &[0, 2, 1]),
+        order("the order of a margin of 50000", grown(d(), &[0, 50_000]), 0, &[2, 0, 1]),
+        order("the order of a margin of 50001", grown(d(), &[0, 50_001]), 17, &[7, 7, 7]),
+        order("the order of a margin past k", grown(d(), &[0, 0, 1]), 17, &[7, 7, 7]),
+        order("2 before 17", grown(shaped(2, 513, 1), &[50_001]), 2, &[7, 7, 7]),
+        order("1 before 17", grown(shaped(1, 2, 1), &[50_001]), 1, &[7, 7, 7]),
+        order("17 before 3", grown(shaped(2, 2, 2), &[50_001]), 17, &[7, 7, 7]),
+        order("17 before 4", grown(with_cell(2, 1_000_001), &[50_001]), 17, &[7, 7, 7]),
+        order("17 before 8", grown(d(), &[50_001]), 17, &[7, 7]),
+        order("a right of 1000001 in a margin", grown(with_cell(2, 1_000_001), &[50_000]), 4, &[7, 7, 7]),
+        order("a left above its right in a margin", grown(with_cell(4, 2001), &[50_000]), 4, &[7, 7, 7]),
+        row("the first row of D in a margin of 250", grown(d(), &[0, 250]), &[0, 0], (0, 2, 562_500)),
+        row("the second row of D in a margin of 250", grown(d(), &[0, 250]), &[1, 0], (0, 1, 187_500)),
+        row("a guard made by growing", grown(d(), &[0, 500]), &[0, 0], (0, 1, 1_000_000)),
+        row("the largest area", most(2), &[0, 0], (0, 1, 4_410_000_000_000)),
+        row("the largest area of six layers", most(6), &[0; 6], (0, 1, 4_410_000_000_000)),
+        row("a row with a margin of 4294967295", grown(d(), &[u32::MAX]), &[0, 0], (17, 0, 0)),
+        row("5 and 5 close a gap of 10", grown(in_a_line(&[0, 20]), &[5, 5]), &[0, 0], (0, 2, 0)),
+        row("5 and 4 leave a millimetre of it", grown(in_a_line(&[0, 20]), &[5, 4]), &[0, 0], (0, 0, 0)),
+        pair("10 and 0 close a gap of 10", grown(in_a_line(&[0, 20]), &[10]), &[0, 0], (0, 0, 0)),
+        pair("9 and 0 leave a millimetre of it", grown(in_a_line(&[0, 20]), &[9]), &[0, 0], (0, 1, 2)),
+        pair("17 before 23", grown(d(), &[0, 50_001]), &[], (17, 0, 0)),
+        reading("a text with margins", two, (0, [1, 0], [1_500, 20]), &[-3, -2, 5, 4]),
+        reading("a margin of 50000", "PLAN,2/LAYER,0,50000/LAYER,0,0/", (0, [0; 2], [50_000, 0]), &[]),
+        reading("a margin of 50001", "PLAN,2/LAYER,0,50001/LAYER,0,0/", (10, [0; 2], [0; 2]), &[]),
+        reading("a margin of -1", "PLAN,2/LAYER,0,9/LAYER,0,-1/", (10, [0; 2], [0; 2]), &[]),
+        reading("a margin of -0", "PLAN,2/LAYER,0,9/LAYER,0,-0/", (9, [0; 2], [0; 2]), &[]),
+        reading("an old LAYER line", "PLAN,2/LAYER,0,9/LAYER,0/", (9, [0; 2], [0; 2]), &[]),
+        writing(
+            "a text with margins, written",
+            grown(Plan { shape: shaped(2, 1, 0).shape, cells: vec![-3, -2, 5, 4] }, &[1_500, 20]),
+            two,
+        ),
+    ]
+}
+
 // ---------------------------------------------------------------- reports
 
 /// The line of a square of 10.
@@ -125,26 +205,38 @@ fn report(name: &'static str, input: &str, printed: &str) -> KnownReport {
 
 /// One square in the first layer and these lines from the second layer on.
 fn beside_a_square(lines: &str) -> String {
-    format!("PLAN,2/LAYER,1/{SQUARE}{lines}")
+    format!("PLAN,2/LAYER,1,0/{SQUARE}{lines}")
 }
 
 /// Two equal rectangles of width 1 and this height, one in each layer.
 fn of_height(height: u32) -> String {
-    format!("PLAN,2/LAYER,1/RECT,0,0,1,{height}/LAYER,1/RECT,0,0,1,{height}/")
+    format!("PLAN,2/LAYER,1,0/RECT,0,0,1,{height}/LAYER,1,0/RECT,0,0,1,{height}/")
 }
 
 /// Plan D, every cause that the report has, and the two sides of half a hundredth.
 pub fn known_reports() -> Vec<KnownReport> {
-    let d = "PLAN,2/LAYER,2/RECT,0,0,1000,1000/RECT,1000,0,2000,500/LAYER,1/RECT,500,500,1500,1500/";
+    let d = |first: &str, second: &str| {
+        let layer = "RECT,0,0,1000,1000/RECT,1000,0,2000,500/";
+        format!("PLAN,2/LAYER,2{first}/{layer}LAYER,1{second}/RECT,500,500,1500,1500/")
+    };
     // 79 times 78 is 6,162, and 12,288 cells take 6,144 rows of two.
-    let full = format!("PLAN,2/LAYER,79/{}LAYER,78/{}", SQUARE.repeat(79), SQUARE.repeat(78));
-    let mut long = beside_a_square(&format!("LAYER,1/{}", SQUARE.repeat(5_000)));
+    let full = format!("PLAN,2/LAYER,79,0/{}LAYER,78,0/{}", SQUARE.repeat(79), SQUARE.repeat(78));
+    let mut long = beside_a_square(&format!("LAYER,1,0/{}", SQUARE.repeat(5_000)));
     long.truncate(65_537);
     vec![
-        report("D", d, "ROW,2,0,0,250000/ROW,1,1,0,0/TOTAL,2,4,0.25/"),
+        report("D", &d(",0", ",0"), "ROW,2,0,0,250000/ROW,1,1,0,0/TOTAL,2,4,0.25/"),
+        report("D in a margin of 250", &d(",0", ",250"), "ROW,2,0,0,562500/ROW,1,1,0,187500/TOTAL,2,4,0.75/"),
+        report("D with old LAYER lines", &d("", ""), "REFUSED,9/"),
+        report("D with one old LAYER line", &d(",0", ""), "REFUSED,9/"),
+        report("D in a margin of 50,001", &d(",50001", ",0"), "REFUSED,10/"),
+        report("D in a margin of -1", &d(",0", ",-1"), "REFUSED,10/"),
         report("more rows than the table takes", &full, "REFUSED,7/"),
-        report("no byte 10 at the end", &beside_a_square("LAYER,1/RECT,0,0,10,10"), "REFUSED,9/"),
-        report("a rectangle too many", &beside_a_square(&format!("LAYER,1/{SQUARE}{SQUARE}")), "REFUSED,10/"),
+        report("no byte 10 at the end", &beside_a_square("LAYER,1,0/RECT,0,0,10,10"), "REFUSED,9/"),
+        report(
+            "a rectangle too many",
+            &beside_a_square(&format!("LAYER,1,0/{SQUARE}{SQUARE}")),
+            "REFUSED,10/",
+        ),
         report("65,537 bytes", &long, "REFUSED,13/"),
         report("4,999 square millimetres", &of_height(4_999), "ROW,1,0,0,4999/TOTAL,1,2,0.00/"),
         report("5,000 square millimetres", &of_height(5_000), "ROW,1,0,0,5000/TOTAL,1,2,0.01/"),

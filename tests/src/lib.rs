@@ -1,7 +1,7 @@
 //! The rules of the plan overlay written a second time, and a comparison of two overlays.
 //!
 //! An overlay under test implements `overlay::Overlay` and is handed to `compare::compare` beside
-//! `reference::Reference`; its report is handed to `reports::compare_reports` beside
+//! `reference::REFERENCE`; its report is handed to `reports::compare_reports` beside
 //! `reference::report`, and its call on survey records to `surveys::compare_surveys` beside
 //! `surveys::cover_records`. All give their counts, or the first difference with the whole case.
 

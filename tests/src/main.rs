@@ -3,7 +3,7 @@
 use overlay_tests::compare::{compare, Tally};
 use overlay_tests::crossings::{compare_crossings, ByWords, SLIPS as CROSSING_SLIPS};
 use overlay_tests::nearest::{compare_nearest, nearest, WRONG_NEAREST};
-use overlay_tests::reference::{report, Reference};
+use overlay_tests::reference::{report, REFERENCE};
 use overlay_tests::reports::compare_reports;
 use overlay_tests::surveys::{compare_surveys, cover_records, wrong_surveys};
 use overlay_tests::wrong::{Wrong, REPORT_SLIPS, SLIPS};
@@ -18,7 +18,7 @@ fn stop(text: &str) -> ! {
 /// Every wrong overlay must differ from the reference somewhere.
 fn catch_wrong_overlays() {
     for (slip, name) in SLIPS {
-        match compare(&Wrong(slip), &Reference) {
+        match compare(&Wrong(slip), &REFERENCE) {
             Err(found) => {
                 println!("wrong overlay caught after {} cases ({}): {name}", found.cases, found.kind)
             }
@@ -71,7 +71,7 @@ fn catch_wrong_crossings() {
 
 /// The reference must agree with itself.
 fn compare_with_itself() -> Tally {
-    let mut tally = compare(&Reference, &Reference).unwrap_or_else(|found| stop(&found.text));
+    let mut tally = compare(&REFERENCE, &REFERENCE).unwrap_or_else(|found| stop(&found.text));
     tally.add("reports", compare_reports(&report, &report).unwrap_or_else(|found| stop(&found.text)));
     tally.add("nearest", compare_nearest(&nearest, &nearest).unwrap_or_else(|found| stop(&found.text)));
     let surveys = compare_surveys(&cover_records, &cover_records);

@@ -3,8 +3,8 @@
 use crate::call::Plan;
 use crate::compare::Difference;
 use crate::overlay::{Overlay, Shape};
-use crate::reference::{layers_of, plan_fault, Rect, Reference};
-use crate::seeds::{plan_from, Seeds, STYLES};
+use crate::reference::{grow, layers_of, plan_fault, ungrown, Layers, Rect, REFERENCE};
+use crate::seeds::{grown_by, plan_from, Seeds, DAMAGES, STYLES};
 
 /// What lies nearest in one layer.
 #[derive(Clone, Copy, Debug, Default, PartialEq, Eq)]
@@ -36,7 +36,11 @@ const SEED: u64 = 0xD1B5_4A32_D192_ED03;
 fn axis_gap(a: (i32, i32), b: (i32, i32)) -> i128 {
     let meet = a.0.max(b.0) <= a.1.min(b.1);
     let facing = if a.1 < b.0 { (a.1, b.0) } else { (b.1, a.0) };
-    if meet { 0 } else { i128::from(facing.1) - i128::from(facing.0) }
+    if meet {
+        0
+    } else {
+        i128::from(facing.1) - i128::from(facing.0)
+    }
 }
 
 /// "the squared gap is the sum of both squares".
@@ -52,7 +56,7 @@ fn bad_box(around: [i32; 4]) -> bool {
     out || around[0] > around[2] || around[1] > around[3]
 }
 
-/// Checks 1 to 4, and 14 after them.
+/// Checks 1, 2, 17, 3, 4, and 14 after them.
 fn fault(shape: &Shape, cells: &[i32], around: [i32; 4]) -> u32 {
     match plan_fault(shape, cells) {
         0 if bad_box(around) => 14,
@@ -65,15 +69,14 @@ fn refused(number: u32) -> NearestTold {
     NearestTold { number, layers: [Near::default(); 6] }
 }
 
-/// The layers judged by any gap; `least` picks the entry among place and gap.
+/// Layers judged by any gap; `least` picks the entry among place and gap.
 fn nearest_by(
-    shape: &Shape,
-    cells: &[i32],
+    layers: Layers,
     gap: &dyn Fn(&Rect) -> i128,
     least: &dyn Fn(&[(i128, usize)]) -> Option<(i128, usize)>,
 ) -> NearestTold {
     let mut told = refused(0);
-    for (entry, rects) in told.layers.iter_mut().zip(layers_of(shape, cells)) {
+    for (entry, rects) in told.layers.iter_mut().zip(layers) {
         let gaps: Vec<(i128, usize)> = rects.iter().map(gap).zip(0..).collect();
         if let Some((gap, place)) = least(&gaps) {
             *entry = Near { found: true, place: place as u32, gap: gap as u64 };
@@ -90,7 +93,7 @@ fn lowest(gaps: &[(i128, usize)]) -> Option<(i128, usize)> {
 /// The rule.
 pub fn nearest(shape: &Shape, cells: &[i32], around: [i32; 4]) -> NearestTold {
     match fault(shape, cells, around) {
-        0 => nearest_by(shape, cells, &|r| squared_gap(around, r), &lowest),
+        0 => nearest_by(layers_of(shape, cells), &|r| squared_gap(around, r), &lowest),
         number => refused(number),
     }
 }
@@ -103,7 +106,7 @@ pub type WrongNearest = fn(&Shape, &[i32], [i32; 4]) -> NearestTold;
 /// The rule with another gap between a box and a rectangle.
 fn by_gap(shape: &Shape, cells: &[i32], around: [i32; 4], gap: fn([i32; 4], &Rect) -> i128) -> NearestTold {
     match fault(shape, cells, around) {
-        0 => nearest_by(shape, cells, &|r| gap(around, r), &lowest),
+        0 => nearest_by(layers_of(shape, cells), &|r| gap(around, r), &lowest),
         number => refused(number),
     }
 }
@@ -146,9 +149,10 @@ fn narrow(shape: &Shape, cells: &[i32], around: [i32; 4]) -> NearestTold {
 
 /// The highest place among equals.
 fn highest(shape: &Shape, cells: &[i32], around: [i32; 4]) -> NearestTold {
-    let last = |gaps: &[(i128, usize)]| gaps.iter().copied().min_by_key(|&(gap, place)| (gap, usize::MAX - place));
+    let last =
+        |gaps: &[(i128, usize)]| gaps.iter().copied().min_by_key(|&(gap, place)| (gap, usize::MAX - place));
     match fault(shape, cells, around) {
-        0 => nearest_by(shape, cells, &|r| squared_gap(around, r), &last),
+        0 => nearest_by(layers_of(shape, cells), &|r| squared_gap(around, r), &last),
         number => refused(number),
     }
 }
@@ -170,7 +174,11 @@ fn empty_found(shape: &Shape, cells: &[i32], around: [i32; 4]) -> NearestTold {
 
 /// 14 asked before the causes of the plan.
 fn box_first(shape: &Shape, cells: &[i32], around: [i32; 4]) -> NearestTold {
-    if bad_box(around) { refused(14) } else { nearest(shape, cells, around) }
+    if bad_box(around) {
+        refused(14)
+    } else {
+        nearest(shape, cells, around)
+    }
 }
 
 /// A box with its sides the wrong way round let through.
@@ -183,7 +191,7 @@ fn box_turned(shape: &Shape, cells: &[i32], around: [i32; 4]) -> NearestTold {
 fn box_anywhere(shape: &Shape, cells: &[i32], around: [i32; 4]) -> NearestTold {
     match fault(shape, cells, around) {
         14 if around[0] <= around[2] && around[1] <= around[3] => {
-            nearest_by(shape, cells, &|r| squared_gap(around, r), &lowest)
+            nearest_by(layers_of(shape, cells), &|r| squared_gap(around, r), &lowest)
         }
         _ => nearest(shape, cells, around),
     }
@@ -198,8 +206,34 @@ fn refusal_filled(shape: &Shape, cells: &[i32], around: [i32; 4]) -> NearestTold
     told
 }
 
+/// Layers other than the grown ones.
+fn by_layers(
+    shape: &Shape,
+    cells: &[i32],
+    around: [i32; 4],
+    layers: fn(&Shape, &[i32]) -> Layers,
+) -> NearestTold {
+    match fault(shape, cells, around) {
+        0 => nearest_by(layers(shape, cells), &|r| squared_gap(around, r), &lowest),
+        number => refused(number),
+    }
+}
+
+/// Rectangles as they are drawn.
+fn not_grown(shape: &Shape, cells: &[i32], around: [i32; 4]) -> NearestTold {
+    by_layers(shape, cells, around, ungrown)
+}
+
+/// The box grown by each layer's margin as well, which leaves the gaps that rectangles grown twice have.
+fn box_grown(shape: &Shape, cells: &[i32], around: [i32; 4]) -> NearestTold {
+    by_layers(shape, cells, around, |shape, cells| {
+        let layers = layers_of(shape, cells).into_iter().zip(shape.margins);
+        layers.map(|(rects, margin)| rects.into_iter().map(|r| grow(r, margin)).collect()).collect()
+    })
+}
+
 /// Every wrong version with its description.
-pub const WRONG_NEAREST: [(WrongNearest, &str); 12] = [
+pub const WRONG_NEAREST: [(WrongNearest, &str); 14] = [
     (not_squared, "gaps not squared"),
     (larger_gap, "the larger gap alone"),
     (open_edges, "touching told as a gap"),
@@ -212,6 +246,8 @@ pub const WRONG_NEAREST: [(WrongNearest, &str); 12] = [
     (box_turned, "a box with its sides the wrong way round accepted"),
     (box_anywhere, "a box out of range accepted"),
     (refusal_filled, "a refusal with an entry"),
+    (not_grown, "rectangles not grown"),
+    (box_grown, "the box grown too"),
 ];
 
 // ---------------------------------------------------------------- comparison
@@ -259,32 +295,45 @@ fn drawn_box(seeds: &mut Seeds) -> [i32; 4] {
 }
 
 /// Compares two calls on one plan with one box.
-fn compare_one(cases: &mut u64, calls: (Nearest, Nearest), plan: &Plan, around: [i32; 4]) -> Result<(), Difference> {
+fn compare_one(
+    cases: &mut u64,
+    calls: (Nearest, Nearest),
+    plan: &Plan,
+    around: [i32; 4],
+) -> Result<(), Difference> {
     *cases += 1;
     let left = calls.0(&plan.shape, &plan.cells, around);
     let right = calls.1(&plan.shape, &plan.cells, around);
     if left == right {
         return Ok(());
     }
-    let text = format!("DIFFERENCE in nearest\n{plan:?}\nbox {around:?}\nleft:  {left:?}\nright: {right:?}\n");
+    let text =
+        format!("DIFFERENCE in nearest\n{plan:?}\nbox {around:?}\nleft:  {left:?}\nright: {right:?}\n");
     Err(Difference { cases: *cases, kind: "nearest", text })
 }
 
 /// The example of the manual: the forecourt, a plinth on it, and the place and squared gap of what lies nearest in each layer.
 fn forecourt() -> (Plan, [i32; 4], [(u32, u64); 6]) {
     let mut cells = vec![0; 12_288];
-    let shape = Reference.read(include_bytes!("../../examples/forecourt.plan"), &mut cells).shape;
+    let shape = REFERENCE.read(include_bytes!("../../examples/forecourt.plan"), &mut cells).shape;
     cells.truncate(4 * shape.sizes.iter().sum::<u32>() as usize);
-    let due = [(1, 4_000_000), (0, 1_000_000), (2, 490_000), (1, 20_250_000), (0, 0), (3, 8_410_000)];
+    let due = [(1, 250_000), (0, 1_000_000), (2, 490_000), (1, 20_250_000), (0, 0), (3, 8_410_000)];
     (Plan { shape, cells }, [30_000, 11_500, 30_600, 12_100], due)
 }
 
 /// Compares two calls over many plans and boxes; returns how many cases were compared.
 pub fn compare_nearest(left: Nearest, right: Nearest) -> Result<u64, Difference> {
     let (mut seeds, mut cases) = (Seeds(SEED), 0);
-    let far = plan_from(&[&[[-1_000_000; 4], [0, 0, 3, 4]], &[[1_000_000; 4]], &[[1_000_000, -1_000_000, 1_000_000, -1_000_000]]]);
+    let far = plan_from(&[
+        &[[-1_000_000; 4], [0, 0, 3, 4]],
+        &[[1_000_000; 4]],
+        &[[1_000_000, -1_000_000, 1_000_000, -1_000_000]],
+    ]);
     for around in [[-1_000_000; 4], [1_000_000; 4], [0, 0, 0, 0], [6, 8, 9, 9]] {
         compare_one(&mut cases, (left, right), &far, around)?;
+        for margins in [[50_000; 3], [2, 3, 50_000], [3, 0, 1]] {
+            compare_one(&mut cases, (left, right), &grown_by(far.clone(), &margins), around)?;
+        }
     }
     let (plan, around, due) = forecourt();
     let layers = due.map(|(place, gap)| Near { found: true, place, gap });
@@ -292,16 +341,23 @@ pub fn compare_nearest(left: Nearest, right: Nearest) -> Result<u64, Difference>
         compare_one(&mut cases, (call, &|_, _, _| NearestTold { number: 0, layers }), &plan, around)?;
     }
     for round in 0..PLANS {
-        let plan = seeds.plan(2 + (round % 5) as usize, round % STYLES);
+        let mut plan = seeds.plan(2 + (round % 5) as usize, round % STYLES);
+        if round % 2 == 1 {
+            plan = seeds.with_margins(plan);
+        }
         let mut boxes: Vec<[i32; 4]> = (0..6).map(|_| drawn_box(&mut seeds)).collect();
-        if let Some(rect) = plan.cells.chunks(4).nth(seeds.below(4) as usize) {
+        let at = seeds.below(4) as usize;
+        if let Some(rect) = plan.cells.chunks(4).nth(at) {
             boxes.extend(boxes_about(rect));
+        }
+        if let Some(r) = layers_of(&plan.shape, &plan.cells).concat().get(at).filter(|_| round % 2 == 1) {
+            boxes.extend(boxes_about(&[r.left, r.bottom, r.right, r.top]));
         }
         boxes.extend(BAD);
         for &around in &boxes {
             compare_one(&mut cases, (left, right), &plan, around)?;
         }
-        for way in 0..8 {
+        for way in 0..DAMAGES {
             let mut unsound = plan.clone();
             seeds.damage_plan(&mut unsound, way);
             for around in [drawn_box(&mut seeds), seeds.pick(&BAD)] {

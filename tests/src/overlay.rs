@@ -1,10 +1,16 @@
 //! The calls of the plan overlay on plain types.
 
-/// k and the six sizes of a plan.
+/// k, the six sizes and the six margins of a plan.
 #[derive(Clone, Copy, Debug, PartialEq, Eq)]
 pub struct Shape {
     pub k: u32,
     pub sizes: [u32; 6],
+    pub margins: [u32; 6],
+}
+
+impl Shape {
+    /// What a refused reading returns.
+    pub const NONE: Shape = Shape { k: 0, sizes: [0; 6], margins: [0; 6] };
 }
 
 /// The trial due next, or Ended with all else 0.

@@ -3,7 +3,7 @@
 use crate::call::Plan;
 use crate::compare::Difference;
 use crate::known::known_reports;
-use crate::seeds::{equal_plan, plan_d, plan_from, shape_of, spell, text, Seeds, STYLES};
+use crate::seeds::{equal_plan, grown_by, plan_d, plan_from, shape_of, spell, text, Seeds, STYLES};
 
 /// How many drawn texts are reported.
 const DRAWN: u64 = 300;
@@ -45,13 +45,19 @@ fn show(input: &[u8], left: &[u8], right: &[u8]) -> String {
 
 /// Every input of the comparison.
 pub fn inputs() -> Vec<Vec<u8>> {
-    let mut all = vec![Vec::new(), spell("PLAN,2/"), spell("PLAN,2/LAYER,0/LAYER,0/"), text(&plan_d())];
+    let mut all = vec![Vec::new(), spell("PLAN,2/"), spell("PLAN,2/LAYER,0,0/LAYER,0,0/"), text(&plan_d())];
+    all.extend([spell("PLAN,2/LAYER,0/LAYER,0/"), spell("PLAN,2/LAYER,0,50000/LAYER,0,50001/")]);
+    all.push(include_bytes!("../../examples/forecourt.plan").to_vec());
     all.extend(rounding().iter().map(text));
     all.extend(full_tables().iter().map(text));
     all.extend(long_inputs());
     let mut seeds = Seeds(0x9E37_79B9_7F4A_7C15);
     for round in 0..DRAWN {
-        let mut text = text(&seeds.plan(2 + (round % 5) as usize, (round / 5) % STYLES));
+        let mut plan = seeds.plan(2 + (round % 5) as usize, (round / 5) % STYLES);
+        if seeds.once_in(2) {
+            plan = seeds.with_margins(plan);
+        }
+        let mut text = text(&plan);
         if seeds.once_in(6) {
             let at = seeds.below(text.len() as u64) as usize;
             text.remove(at);
@@ -70,7 +76,11 @@ fn rounding() -> Vec<Plan> {
             .collect();
     plans.push(equal_plan(&[2, 1], [0, 0, 1, 4_999]));
     plans.push(equal_plan(&[2, 2, 2], [0, 0, 50, 99]));
-    plans.push(equal_plan(&[64, 96], [-1_000_000, -1_000_000, 1_000_000, 1_000_000]));
+    let largest = equal_plan(&[64, 96], [-1_000_000, -1_000_000, 1_000_000, 1_000_000]);
+    plans.push(grown_by(largest.clone(), &[50_000, 50_000]));
+    plans.push(largest);
+    // A point grown by 35 has 4,900 square millimetres, by 36 it has 5,184.
+    plans.extend([35, 36].map(|margin| grown_by(equal_plan(&[1, 1], [0; 4]), &[margin, margin])));
     plans
 }
 
@@ -116,7 +126,7 @@ fn plan_of_length(length: usize) -> Plan {
     const TOPS: [i32; 7] = [0, 10, 100, 1_000, 10_000, 100_000, 1_000_000];
     let rects = 4 * 512;
     // Without bottom and top: PLAN line, four LAYER lines, and 21 bytes for each RECT line.
-    let mut spare = length - 7 - 4 * 10 - rects * 21;
+    let mut spare = length - 7 - 4 * 12 - rects * 21;
     let mut cells = Vec::new();
     for at in 0..rects {
         let share = spare / (rects - at);

@@ -10,6 +10,9 @@ pub struct Seeds(pub u64);
 /// How many styles of plan there are.
 pub const STYLES: u64 = 11;
 
+/// How many ways there are to damage a plan.
+pub const DAMAGES: u64 = 11;
+
 /// Coordinates at the ends of the range and about 0.
 const EXTREMES: [i32; 9] = [-1_000_000, -999_999, -999_998, -1, 0, 1, 999_998, 999_999, 1_000_000];
 
@@ -18,6 +21,10 @@ const OUTSIDE: [i32; 6] = [1_000_001, -1_000_001, i32::MAX, i32::MIN, 2_000_000,
 
 /// Numbers that no size may be.
 const TOO_LARGE: [u32; 8] = [513, 514, 1024, 65_536, 1 << 30, 1 << 31, u32::MAX - 1, u32::MAX];
+
+/// Numbers that no margin may be.
+const TOO_WIDE: [u32; 9] =
+    [50_001, 50_002, 65_536, 100_000, 1_000_000, 1 << 30, 1 << 31, u32::MAX - 49_999, u32::MAX];
 
 impl Seeds {
     /// The next number.
@@ -139,6 +146,64 @@ impl Seeds {
         Plan { shape: shape_of(sizes), cells }
     }
 
+    /// The plan with margins: small, lifelike, at the limits, in one layer alone, or such that two of its rectangles just touch, just do not, or have the
+    /// same left.
+    pub fn with_margins(&mut self, mut plan: Plan) -> Plan {
+        let k = plan.shape.k as usize;
+        let way = self.below(8);
+        for margin in &mut plan.shape.margins[..k] {
+            *margin = match way {
+                0 => self.below(4) as u32,
+                1 if self.once_in(3) => 0,
+                1 => self.between(500, 5_000) as u32,
+                2 => self.pick(&[0, 1, 49_999, 50_000]),
+                _ => 0,
+            };
+        }
+        match way {
+            0..=2 => {}
+            3 => plan.shape.margins[self.below(k as u64) as usize] = self.pick(&[1, 2, 700, 50_000]),
+            4..=5 => self.just_touch(&mut plan),
+            _ => self.same_left(&mut plan),
+        }
+        plan
+    }
+
+    /// A rectangle of each of two layers, as layer and cells; nothing where fewer than two have any.
+    fn two_rects(&mut self, plan: &Plan) -> Option<[(usize, [i32; 4]); 2]> {
+        let mut all = Vec::new();
+        let mut rects = plan.cells.chunks(4);
+        for (layer, &size) in plan.shape.sizes.iter().enumerate() {
+            all.extend(rects.by_ref().take(size as usize).map(|r| (layer, [r[0], r[1], r[2], r[3]])));
+        }
+        let first = *all.get(self.below(all.len().max(1) as u64) as usize)?;
+        all.retain(|&(layer, _)| layer != first.0);
+        let second = *all.get(self.below(all.len().max(1) as u64) as usize)?;
+        Some([first, second])
+    }
+
+    /// Margins of two layers that close the gap between two of their rectangles, or leave a millimetre of it.
+    fn just_touch(&mut self, plan: &mut Plan) {
+        let Some([(i, a), (j, b)]) = self.two_rects(plan) else { return };
+        let gaps = [b[0] - a[2], a[0] - b[2], b[1] - a[3], a[1] - b[3]];
+        let gap = gaps.into_iter().max().unwrap_or(0).max(self.pick(&[0, 3]));
+        let gap = (gap - self.pick(&[0, 0, 1])).clamp(0, 100_000) as u32;
+        let share =
+            (self.below(u64::from(gap) + 1) as u32).clamp(gap.saturating_sub(50_000), 50_000.min(gap));
+        plan.shape.margins[i] = share;
+        plan.shape.margins[j] = gap - share;
+    }
+
+    /// Margins of two layers that give two of their rectangles the same left, or lefts a millimetre apart.
+    fn same_left(&mut self, plan: &mut Plan) {
+        let Some([(i, a), (j, b)]) = self.two_rects(plan) else { return };
+        let (low, high, apart) = if a[0] < b[0] { (i, j, b[0] - a[0]) } else { (j, i, a[0] - b[0]) };
+        let least = self.below(3) as i32;
+        let more = (least + apart + self.pick(&[0, 0, 0, 1, -1])).clamp(0, 50_000);
+        plan.shape.margins[low] = least as u32;
+        plan.shape.margins[high] = more as u32;
+    }
+
     /// Any k that is none.
     pub fn wrong_k(&mut self) -> u32 {
         self.pick(&[0, 1, 7, 8, 6 + 256, 1 << 31, u32::MAX])
@@ -158,7 +223,13 @@ impl Seeds {
             4 => self.damage_length(&mut plan.cells),
             5 => self.set_cell(&mut plan.cells),
             6 => self.reverse_sides(&mut plan.cells, 0),
-            _ => self.reverse_sides(&mut plan.cells, 1),
+            7 => self.reverse_sides(&mut plan.cells, 1),
+            8 => plan.shape.margins[self.below(k) as usize] = self.pick(&TOO_WIDE),
+            9 => {
+                let past = k + self.below((6 - k).max(1));
+                plan.shape.margins[past.min(5) as usize] = self.pick(&[1, 500, 50_000, 50_001, u32::MAX]);
+            }
+            _ => plan.shape.margins[self.below(k) as usize] = self.pick(&[0, 1, 49_999, 50_000, 50_001]),
         }
     }
 
@@ -258,9 +329,9 @@ impl Seeds {
     }
 }
 
-/// k and the six sizes.
+/// k and the six sizes; the margins are 0.
 pub fn shape_of(sizes: &[u32]) -> Shape {
-    let mut shape = Shape { k: sizes.len() as u32, sizes: [0; 6] };
+    let mut shape = Shape { k: sizes.len() as u32, ..Shape::NONE };
     shape.sizes[..sizes.len()].copy_from_slice(sizes);
     shape
 }
@@ -275,6 +346,12 @@ pub fn plan_from(layers: &[&[[i32; 4]]]) -> Plan {
 pub fn equal_plan(sizes: &[u32], rect: [i32; 4]) -> Plan {
     let n = sizes.iter().sum::<u32>() as usize;
     Plan { shape: shape_of(sizes), cells: rect.repeat(n) }
+}
+
+/// The plan with these margins of its first layers.
+pub fn grown_by(mut plan: Plan, margins: &[u32]) -> Plan {
+    plan.shape.margins[..margins.len()].copy_from_slice(margins);
+    plan
 }
 
 /// The plan D of the report.

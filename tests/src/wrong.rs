@@ -2,9 +2,9 @@
 
 use crate::overlay::{Overlay, Page, PairTold, Reading, RowTold, Run, Shape, Stop, Ticket, Writing};
 use crate::reference::{
-    bad_places, count_rows, intersection, is_empty, join, layers_of, line_of, order_fault, page_by,
-    page_from, pairs, passes, plan_fault, position, rects_at, refused_page, refused_pair, refused_run,
-    report, square_metres, sweep_order, takes, ticket_at, trials_by, Layers, Line, Passes, Rect, Reference,
+    bad_places, count_rows, first_of, grow, intersection, is_empty, join, layers_of, line_of, page_from,
+    pairs, passes, plan_fault, position, rects_at, refused_pair, refused_run, report, square_metres,
+    sweep_order, takes, text_of, ticket_at, trials_by, ungrown, Layers, Line, Passes, Rect, Rules, REFERENCE,
 };
 
 /// The slips.
@@ -62,10 +62,37 @@ pub enum Slip {
     PairCauseLate,
     PlacesTooLong,
     PlaceAtSize,
+    NoneGrown,
+    LeftNotGrown,
+    BottomNotGrown,
+    RightNotGrown,
+    TopNotGrown,
+    NeighbourMargin,
+    OrderUngrown,
+    GuardUngrown,
+    AreaUngrown,
+    PairUngrown,
+    FourGrown,
+    SeventeenFirst,
+    SeventeenLate,
+    SeventeenLast,
+    MarginPastK,
+    MarginNarrow,
+    MarginWide,
+    WriteNoMargin,
+    WriteMarginFirst,
+    WriteGrown,
+    ReadNoMargin,
+    ReadMarginFirst,
+    ReadRefusalMargins,
+    OldLayerLines,
+    MarginCut,
+    MarginSignLost,
+    MarginNine,
 }
 
 /// Every slip with its description.
-pub const SLIPS: [(Slip, &str); 52] = [
+pub const SLIPS: [(Slip, &str); 79] = [
     (Slip::TiesTwice, "guards chosen with <= on both sides, so ties list a row twice"),
     (Slip::OpenEdges, "open edges"),
     (Slip::SpentAtEnd, "Spent reported where the last trial ended the walk"),
@@ -118,6 +145,33 @@ pub const SLIPS: [(Slip, &str); 52] = [
     (Slip::PairCauseLate, "23 only where no pair is found among the places that are there"),
     (Slip::PlacesTooLong, "more than k places read as the first k"),
     (Slip::PlaceAtSize, "a place one past the last read as the last"),
+    (Slip::NoneGrown, "margins passed over"),
+    (Slip::LeftNotGrown, "grown on three sides, all but the left"),
+    (Slip::BottomNotGrown, "grown on three sides, all but the bottom"),
+    (Slip::RightNotGrown, "grown on three sides, all but the right"),
+    (Slip::TopNotGrown, "grown on three sides, all but the top"),
+    (Slip::NeighbourMargin, "the margin of the neighbour layer"),
+    (Slip::OrderUngrown, "the sweep order by lefts that are not grown"),
+    (Slip::GuardUngrown, "the guard by lefts that are not grown"),
+    (Slip::AreaUngrown, "areas of what the rectangles have in common as they are drawn"),
+    (Slip::PairUngrown, "the pair of rectangles as they are drawn"),
+    (Slip::FourGrown, "check 4 on the grown sides"),
+    (Slip::SeventeenFirst, "17 before 2"),
+    (Slip::SeventeenLate, "17 after 3"),
+    (Slip::SeventeenLast, "17 after 4"),
+    (Slip::MarginPastK, "a margin past k taken"),
+    (Slip::MarginNarrow, "a margin of 50,000 refused"),
+    (Slip::MarginWide, "a margin of 50,001 taken"),
+    (Slip::WriteNoMargin, "a text written with margin 0"),
+    (Slip::WriteMarginFirst, "a text written with the margin before the size"),
+    (Slip::WriteGrown, "a text of the grown rectangles"),
+    (Slip::ReadNoMargin, "a text read with margin 0"),
+    (Slip::ReadMarginFirst, "the margin read as the size"),
+    (Slip::ReadRefusalMargins, "margins after a refused reading"),
+    (Slip::OldLayerLines, "a LAYER line without a margin read"),
+    (Slip::MarginCut, "a margin above 50,000 in a text read as 50,000"),
+    (Slip::MarginSignLost, "the minus of a margin in a text passed over"),
+    (Slip::MarginNine, "9 for a margin in a text that is out of range"),
 ];
 
 /// The reference with one slip.
@@ -134,10 +188,131 @@ fn open_edges(j: usize, i: usize, r: Rect, g: Rect, c: Rect) -> bool {
     common.left < common.right && common.bottom < common.top && passes(j, i, r, g, c)
 }
 
-/// The number by the checks 1, 3, 2, 4, where it differs: 3 for 2.
-fn three_first(shape: &Shape, cells: &[i32]) -> bool {
-    let n: u64 = shape.sizes.iter().map(|&size| u64::from(size)).sum();
-    plan_fault(shape, cells) == 2 && cells.len() as u64 != 4 * n
+/// The layers with each rectangle made of its layer and itself as it is drawn.
+fn layers_by(shape: &Shape, cells: &[i32], made: impl Fn(usize, Rect) -> Rect) -> Layers {
+    let layers = ungrown(shape, cells).into_iter().enumerate();
+    layers.map(|(j, rects)| rects.into_iter().map(|r| made(j, r)).collect()).collect()
+}
+
+/// Layers grown by the margin of the next layer, the last by that of the first.
+fn by_neighbour(shape: &Shape, cells: &[i32]) -> Layers {
+    layers_by(shape, cells, |j, r| grow(r, shape.margins[(j + 1) % shape.k as usize]))
+}
+
+/// Layers grown on three sides: the grown rectangle and the drawn one make one.
+fn by_three(shape: &Shape, cells: &[i32], made: fn(Rect, Rect) -> Rect) -> Layers {
+    layers_by(shape, cells, |j, r| made(grow(r, shape.margins[j]), r))
+}
+
+/// The cells of the grown rectangles.
+fn grown_cells(shape: &Shape, cells: &[i32]) -> Vec<i32> {
+    layers_of(shape, cells).concat().iter().flat_map(|r| [r.left, r.bottom, r.right, r.top]).collect()
+}
+
+/// The causes of a plan with check 4 on the grown rectangles.
+fn four_grown(shape: &Shape, cells: &[i32]) -> u32 {
+    match first_of(&[1, 2, 17, 3], shape, cells) {
+        0 if cells.iter().any(|cell| cell.unsigned_abs() > 2_000_000) => 4,
+        0 => first_of(&[4], shape, &grown_cells(shape, cells)),
+        fault => fault,
+    }
+}
+
+/// The causes of a plan whose margins are taken for others.
+fn fault_taken(shape: &Shape, cells: &[i32], taken: fn(&Shape) -> [u32; 6]) -> u32 {
+    plan_fault(&Shape { margins: taken(shape), ..*shape }, cells)
+}
+
+/// The rules under a slip of judging or growing a plan.
+fn rules_of(slip: Slip) -> Rules {
+    let judged = |fault| Rules { fault, ..REFERENCE };
+    let grown = |layers| Rules { layers, sorted: layers, ..REFERENCE };
+    match slip {
+        Slip::ThreeBeforeTwo => judged(|shape, cells| first_of(&[1, 3, 2, 17, 4], shape, cells)),
+        Slip::SeventeenFirst => judged(|shape, cells| first_of(&[1, 17, 2, 3, 4], shape, cells)),
+        Slip::SeventeenLate => judged(|shape, cells| first_of(&[1, 2, 3, 17, 4], shape, cells)),
+        Slip::SeventeenLast => judged(|shape, cells| first_of(&[1, 2, 3, 4, 17], shape, cells)),
+        Slip::FourGrown => judged(four_grown),
+        Slip::MarginPastK => judged(|shape, cells| {
+            let within = |shape: &Shape| {
+                let mut margins = shape.margins;
+                margins[shape.k.min(6) as usize..].fill(0);
+                margins
+            };
+            fault_taken(shape, cells, within)
+        }),
+        Slip::MarginNarrow => judged(|shape, cells| {
+            fault_taken(shape, cells, |shape| shape.margins.map(|m| m + u32::from(m == 50_000)))
+        }),
+        Slip::MarginWide => judged(|shape, cells| {
+            fault_taken(shape, cells, |shape| shape.margins.map(|m| m - u32::from(m == 50_001)))
+        }),
+        Slip::NoneGrown => grown(ungrown),
+        Slip::NeighbourMargin => grown(by_neighbour),
+        Slip::LeftNotGrown => grown(|s, c| by_three(s, c, |g, r| Rect { left: r.left, ..g })),
+        Slip::BottomNotGrown => grown(|s, c| by_three(s, c, |g, r| Rect { bottom: r.bottom, ..g })),
+        Slip::RightNotGrown => grown(|s, c| by_three(s, c, |g, r| Rect { right: r.right, ..g })),
+        Slip::TopNotGrown => grown(|s, c| by_three(s, c, |g, r| Rect { top: r.top, ..g })),
+        Slip::OrderUngrown => Rules { sorted: ungrown, ..REFERENCE },
+        _ => REFERENCE,
+    }
+}
+
+/// The area of what a row's rectangles have in common as they are drawn; 0 where that is nothing.
+fn ungrown_area(layers: &Layers, row: &[u32]) -> u64 {
+    let common = rects_at(layers, row).into_iter().reduce(intersection).filter(|&b| !is_empty(b));
+    common.map_or(0, |b| (i64::from(b.right - b.left) * i64::from(b.top - b.bottom)) as u64)
+}
+
+/// These areas of the first rows of a table, summed.
+fn ungrown_areas(shape: &Shape, cells: &[i32], table: &[u32], rows: u32) -> u64 {
+    let layers = ungrown(shape, cells);
+    table.chunks(layers.len()).take(rows as usize).map(|row| ungrown_area(&layers, row)).sum()
+}
+
+/// The guard of a row by lefts as they are drawn: the greatest, in the lowest layer.
+fn ungrown_guard(layers: &Layers, row: &[u32]) -> u32 {
+    let rects = rects_at(layers, row);
+    let most = rects.iter().map(|r| r.left).max();
+    rects.iter().position(|r| Some(r.left) == most).map_or(0, |j| j as u32 + 1)
+}
+
+/// A text with the fields of each LAYER line put otherwise.
+fn with_layer_lines(text: &[u8], put: fn(Vec<Vec<u8>>) -> Vec<Vec<u8>>) -> Vec<u8> {
+    let mut out = Vec::new();
+    for line in text.split_inclusive(|&byte| byte == 10) {
+        match line.strip_suffix(b"\n").filter(|line| line.starts_with(b"LAYER\t")) {
+            Some(line) => {
+                let fields = line.split(|&byte| byte == 9).map(<[u8]>::to_vec).collect();
+                out.extend(put(fields).join(&9));
+                out.push(10);
+            }
+            None => out.extend(line),
+        }
+    }
+    out
+}
+
+/// The fields of a LAYER line with its margin replaced by another, where it is well formed.
+fn with_margin(mut fields: Vec<Vec<u8>>, other: fn(i64) -> i64) -> Vec<Vec<u8>> {
+    if let Some(Line::Layer(_, margin)) = line_of(&fields.join(&9)) {
+        fields[2] = other(margin).to_string().into_bytes();
+    }
+    fields
+}
+
+/// The fields of a LAYER line with its two numbers exchanged.
+fn margin_first(mut fields: Vec<Vec<u8>>) -> Vec<Vec<u8>> {
+    if fields.len() == 3 {
+        fields.swap(1, 2);
+    }
+    fields
+}
+
+/// The margins that the LAYER lines of a text name.
+fn margins_in(text: &[u8]) -> Vec<i64> {
+    let lines = text.split(|&byte| byte == 10).filter_map(line_of);
+    lines.filter_map(|line| if let Line::Layer(_, margin) = line { Some(margin) } else { None }).collect()
 }
 
 /// The width of a row's common part, squared.
@@ -156,7 +331,7 @@ fn widths_squared(shape: &Shape, cells: &[i32], table: &[u32], rows: u32) -> u64
 
 /// A whole run by way of one page under a rule for passing.
 fn run_by(rule: Passes, plan: (&Shape, &[i32]), order: &[u32], table: &mut [u32]) -> Run {
-    let fault = order_fault(plan.0, plan.1, order);
+    let fault = REFERENCE.order_fault(plan.0, plan.1, order);
     if fault != 0 {
         return refused_run(fault);
     }
@@ -263,8 +438,11 @@ fn pairs_by(slip: Slip, k: usize) -> Vec<(usize, usize)> {
 fn only_by_left(shape: &Shape, cells: &[i32], order: &[u32]) -> bool {
     let mut sorted = order.to_vec();
     sorted.sort();
-    let all = plan_fault(shape, cells) == 0 && sorted.iter().copied().eq(0..cells.len() as u32 / 4);
-    all && order.windows(2).all(|pair| cells[4 * pair[0] as usize] <= cells[4 * pair[1] as usize])
+    if plan_fault(shape, cells) != 0 || !sorted.iter().copied().eq(0..cells.len() as u32 / 4) {
+        return false;
+    }
+    let rects = layers_of(shape, cells).concat();
+    order.windows(2).all(|pair| rects[pair[0] as usize].left <= rects[pair[1] as usize].left)
 }
 
 /// A page that goes on with a full table until a trial yields a row.
@@ -331,7 +509,8 @@ fn eight_digits_cut(text: &[u8]) -> Vec<u8> {
 /// A page that goes on past 1,000,000 rows where its table has more cells.
 fn cap_ignored(plan: (&Shape, &[i32]), order: &[u32], page: Page, budget: u32, table: &mut [u32]) -> Page {
     let filled = page.rows as usize * plan.0.k as usize;
-    let more = page_by(passes, plan, order, &page.ticket, budget - page.trials, &mut table[filled..]);
+    let more =
+        REFERENCE.page_by(passes, plan, order, &page.ticket, budget - page.trials, &mut table[filled..]);
     Page {
         rows: page.rows + more.rows,
         trials: page.trials + more.trials,
@@ -386,6 +565,7 @@ impl Wrong {
             (Slip::FullLate, Stop::Full) => full_late(shape, cells, page, budget),
             (Slip::EndedEarly, _) => ended_early(shape, cells, page),
             (Slip::WidthSquared, _) => Page { area: widths_squared(shape, cells, table, page.rows), ..page },
+            (Slip::AreaUngrown, _) => Page { area: ungrown_areas(shape, cells, table, page.rows), ..page },
             (Slip::AreaNarrow, _) => Page { area: u64::from(page.area as u32), ..page },
             (Slip::RestCleared, _) => {
                 table[page.rows as usize * shape.k as usize..].fill(0);
@@ -416,10 +596,7 @@ impl Wrong {
 impl Overlay for Wrong {
     /// The order maker with its slips.
     fn make_order(&self, shape: &Shape, cells: &[i32], order: &mut [u32]) -> u32 {
-        if self.0 == Slip::ThreeBeforeTwo && three_first(shape, cells) {
-            return 3;
-        }
-        let number = Reference.make_order(shape, cells, order);
+        let number = rules_of(self.0).make_order(shape, cells, order);
         if self.0 == Slip::PlaceBeforeLayer && number == 0 {
             place_before_layer(shape, cells, order);
         }
@@ -431,10 +608,10 @@ impl Overlay for Wrong {
 
     /// The row call with its slips.
     fn row(&self, shape: &Shape, cells: &[i32], row: &[u32]) -> RowTold {
-        let told = Reference.row(shape, cells, row);
+        let told = rules_of(self.0).row(shape, cells, row);
         let too_long = told.number == 0 && row.len() > shape.k as usize;
         if self.0 == Slip::RowTooLong && too_long {
-            return Reference.row(shape, cells, &row[..shape.k as usize]);
+            return REFERENCE.row(shape, cells, &row[..shape.k as usize]);
         }
         if self.0 == Slip::RowRefusalArea && told.number != 0 {
             return RowTold { area: 3, ..told };
@@ -447,19 +624,21 @@ impl Overlay for Wrong {
             Slip::WidthSquared => RowTold { area: width_squared(&layers, row), ..told },
             Slip::OpenEdges if told.area == 0 => RowTold { layer: 0, ..told },
             Slip::GuardHighest => RowTold { layer: guard_highest(&layers, row), ..told },
+            Slip::GuardUngrown => RowTold { layer: ungrown_guard(&ungrown(shape, cells), row), ..told },
+            Slip::AreaUngrown => RowTold { area: ungrown_area(&ungrown(shape, cells), row), ..told },
             _ => told,
         }
     }
 
     /// The pair call with its slips.
     fn pair(&self, shape: &Shape, cells: &[i32], places: &[u32]) -> PairTold {
-        let told = Reference.pair(shape, cells, places);
+        let rules = rules_of(self.0);
+        let told = rules.pair(shape, cells, places);
         let k = shape.k.min(6) as usize;
         match (self.0, told.number) {
-            (Slip::ThreeBeforeTwo, 2) if three_first(shape, cells) => return refused_pair(3),
-            (Slip::PairCauseFirst, 1..=4) if places.len() != k => return refused_pair(23),
+            (Slip::PairCauseFirst, 1..=4 | 17) if places.len() != k => return refused_pair(23),
             (Slip::PlacesTooLong, 23) if places.len() > k => {
-                return Reference.pair(shape, cells, &places[..k])
+                return REFERENCE.pair(shape, cells, &places[..k])
             }
             (Slip::PlaceAtSize, 23) => {
                 let last = |(&place, &size): (&u32, &u32)| {
@@ -470,7 +649,7 @@ impl Overlay for Wrong {
                     }
                 };
                 let held: Vec<u32> = places.iter().zip(&shape.sizes).map(last).collect();
-                return if held.len() == places.len() { Reference.pair(shape, cells, &held) } else { told };
+                return if held.len() == places.len() { REFERENCE.pair(shape, cells, &held) } else { told };
             }
             (Slip::PairCauseLate, 23) if places.len() == k => {
                 return pair_before_places(shape, cells, places)
@@ -478,7 +657,8 @@ impl Overlay for Wrong {
             (_, 1..) => return told,
             _ => {}
         }
-        let rects = rects_at(&layers_of(shape, cells), places);
+        let layers = if self.0 == Slip::PairUngrown { ungrown } else { rules.layers };
+        let rects = rects_at(&layers(shape, cells), places);
         match self.0 {
             Slip::PairFromZero if told.higher > 0 => {
                 PairTold { lower: told.lower - 1, higher: told.higher - 1, ..told }
@@ -490,9 +670,9 @@ impl Overlay for Wrong {
     /// The fresh-ticket call with its slips.
     fn fresh(&self, shape: &Shape, cells: &[i32], order: &[u32]) -> (u32, Ticket) {
         if self.0 == Slip::OrderPrefix && plan_fault(shape, cells) == 0 {
-            return Reference.fresh(shape, cells, &order[..order.len().min(cells.len() / 4)]);
+            return REFERENCE.fresh(shape, cells, &order[..order.len().min(cells.len() / 4)]);
         }
-        let (number, ticket) = Reference.fresh(shape, cells, order);
+        let (number, ticket) = rules_of(self.0).fresh(shape, cells, order);
         let going = self.0 == Slip::FreshRefusalGoing && number != 0;
         (number, Ticket { ended: ticket.ended && !going, ..ticket })
     }
@@ -510,16 +690,16 @@ impl Overlay for Wrong {
         let plan = (shape, cells);
         let by_left = self.0 == Slip::OrderByLeft && only_by_left(shape, cells, order);
         let good = if by_left { sweep_order(&layers_of(shape, cells)) } else { order.to_vec() };
+        let rules = rules_of(self.0);
         let page = match self.0 {
-            Slip::ThreeBeforeTwo if three_first(shape, cells) => return refused_page(3, ticket),
-            Slip::TiesTwice => page_by(ties_twice, plan, order, ticket, budget, table),
-            Slip::OpenEdges => page_by(open_edges, plan, order, ticket, budget, table),
-            Slip::BudgetPassed => page_by(passes, plan, order, ticket, budget.saturating_add(1), table),
-            _ => page_by(passes, plan, &good, ticket, budget, table),
+            Slip::TiesTwice => rules.page_by(ties_twice, plan, order, ticket, budget, table),
+            Slip::OpenEdges => rules.page_by(open_edges, plan, order, ticket, budget, table),
+            Slip::BudgetPassed => rules.page_by(passes, plan, order, ticket, budget.saturating_add(1), table),
+            _ => rules.page_by(passes, plan, &good, ticket, budget, table),
         };
         if page.stop == Stop::Refused(6) {
             if let Some(believed) = self.believed(shape, cells, ticket) {
-                let told = page_by(passes, plan, order, &believed, budget, table);
+                let told = rules.page_by(passes, plan, order, &believed, budget, table);
                 return if told.stop == page.stop { page } else { told };
             }
         }
@@ -537,13 +717,13 @@ impl Overlay for Wrong {
         match self.0 {
             Slip::TiesTwice => return run_by(ties_twice, (shape, cells), order, table),
             Slip::OpenEdges => return run_by(open_edges, (shape, cells), order, table),
-            Slip::ThreeBeforeTwo if three_first(shape, cells) => return refused_run(3),
             _ => {}
         }
-        let run = Reference.run(shape, cells, order, table);
+        let run = rules_of(self.0).run(shape, cells, order, table);
         match (self.0, run.number) {
             (_, 7) => self.slip_seventh(shape, cells, table),
             (Slip::WidthSquared, 0) => Run { area: widths_squared(shape, cells, table, run.rows), ..run },
+            (Slip::AreaUngrown, 0) => Run { area: ungrown_areas(shape, cells, table, run.rows), ..run },
             (Slip::LengthOfPasses, 0) if run.rows == 0 => Run { trials: 0, ..run },
             _ => run,
         }
@@ -551,15 +731,20 @@ impl Overlay for Wrong {
 
     /// The reader with its slips.
     fn read(&self, text: &[u8], cells: &mut [i32]) -> Reading {
-        match self.0 {
-            Slip::MinusZero => return Reference.read(&without_minus_zero(text), cells),
-            Slip::EightDigits => return Reference.read(&eight_digits_cut(text), cells),
-            Slip::LastLineOpen if !text.ends_with(b"\n") => {
-                return Reference.read(&[text, b"\n"].concat(), cells);
-            }
-            _ => {}
-        }
-        let reading = Reference.read(text, cells);
+        let other = match self.0 {
+            Slip::MinusZero => without_minus_zero(text),
+            Slip::EightDigits => eight_digits_cut(text),
+            Slip::LastLineOpen if !text.ends_with(b"\n") => [text, b"\n"].concat(),
+            Slip::ReadMarginFirst => with_layer_lines(text, margin_first),
+            Slip::OldLayerLines => with_layer_lines(text, |mut fields| {
+                fields.resize(fields.len().max(3), b"0".to_vec());
+                fields
+            }),
+            Slip::MarginCut => with_layer_lines(text, |fields| with_margin(fields, |m| m.min(50_000))),
+            Slip::MarginSignLost => with_layer_lines(text, |fields| with_margin(fields, i64::abs)),
+            _ => text.to_vec(),
+        };
+        let reading = REFERENCE.read(&other, cells);
         if self.0 == Slip::CellsEarly && reading.number != 0 {
             write_early(text, cells);
         }
@@ -571,6 +756,18 @@ impl Overlay for Wrong {
             (Slip::ReadRefusalShape, 11) => {
                 return Reading { shape: Shape { k: 2, ..reading.shape }, ..reading }
             }
+            (Slip::ReadRefusalMargins, 10 | 11) => {
+                let mut shape = reading.shape;
+                let named = margins_in(text).into_iter().map(|margin| margin as u32);
+                shape.margins.iter_mut().zip(named).for_each(|(cell, margin)| *cell = margin);
+                return Reading { shape, ..reading };
+            }
+            (Slip::ReadNoMargin, 0) => {
+                return Reading { shape: Shape { margins: [0; 6], ..reading.shape }, ..reading }
+            }
+            (Slip::MarginNine, 10) if margins_in(text).iter().any(|m| !(0..=50_000).contains(m)) => {
+                return Reading { number: 9, ..reading }
+            }
             _ => {}
         }
         if self.0 == Slip::TenForNine && reading.number == 9 && text.starts_with(b"PLAN\t9\n") {
@@ -581,10 +778,18 @@ impl Overlay for Wrong {
 
     /// The writer with its slips.
     fn write(&self, shape: &Shape, cells: &[i32], text: &mut [u8]) -> Writing {
-        if self.0 == Slip::ThreeBeforeTwo && three_first(shape, cells) {
-            return Writing { number: 3, length: 0 };
+        let sound = plan_fault(shape, cells) == 0;
+        let told = match self.0 {
+            Slip::WriteNoMargin if sound => text_of(&Shape { margins: [0; 6], ..*shape }, cells),
+            Slip::WriteMarginFirst if sound => with_layer_lines(&text_of(shape, cells), margin_first),
+            Slip::WriteGrown if sound => text_of(shape, &grown_cells(shape, cells)),
+            _ => Vec::new(),
+        };
+        if !told.is_empty() && told.len() <= text.len() {
+            text[..told.len()].copy_from_slice(&told);
+            return Writing { number: 0, length: told.len() };
         }
-        let writing = Reference.write(shape, cells, text);
+        let writing = rules_of(self.0).write(shape, cells, text);
         if self.0 == Slip::TwelveWrites && writing.number == 12 {
             text.iter_mut().zip(b"PLAN\t").for_each(|(cell, byte)| *cell = *byte);
         }
@@ -601,11 +806,12 @@ impl Overlay for Wrong {
 pub type Report = fn(&[u8]) -> Vec<u8>;
 
 /// Every wrong report with its description.
-pub const REPORT_SLIPS: [(Report, &str); 4] = [
+pub const REPORT_SLIPS: [(Report, &str); 5] = [
     (rounded_rows, "each row's area rounded before summing"),
     (thirteen_last, "13 asked only of a good text"),
     (thirteen_at_limit, "13 at 65,536 bytes"),
     (cut_short, "a report cut short at 65,536 bytes"),
+    (as_drawn, "a report of the rectangles as they are drawn"),
 ];
 
 /// The report with each row's area rounded to hundredths of a square metre before summing.
@@ -631,7 +837,7 @@ fn rounded_rows(input: &[u8]) -> Vec<u8> {
 
 /// The report that reads a text before it asks for its length.
 fn thirteen_last(input: &[u8]) -> Vec<u8> {
-    let reading = Reference.read(input, &mut [0; 12_288]);
+    let reading = REFERENCE.read(input, &mut [0; 12_288]);
     if reading.number != 0 {
         format!("REFUSED\t{}\n", reading.number).into_bytes()
     } else {
@@ -653,4 +859,14 @@ fn cut_short(input: &[u8]) -> Vec<u8> {
     let mut printed = report(input);
     printed.truncate(65_536);
     printed
+}
+
+/// The report of an accepted plan with all margins 0.
+fn as_drawn(input: &[u8]) -> Vec<u8> {
+    let read = REFERENCE.read(input, &mut [0; 12_288]).number == 0 && input.len() <= 65_536;
+    if read {
+        report(&with_layer_lines(input, |fields| with_margin(fields, |_| 0)))
+    } else {
+        report(input)
+    }
 }

@@ -2,7 +2,9 @@
 
 use overlay_tests::compare::compare;
 use overlay_tests::overlay::{Overlay, Page, PairTold, Reading, RowTold, Run, Shape, Stop, Ticket, Writing};
-use overlay_tests::reference::{pairs, Reference};
+use overlay_tests::reference::{
+    join, pairs, rects_at, row_of, share_a_point, sweep_order, ungrown, REFERENCE,
+};
 use std::cell::RefCell;
 use std::collections::BTreeMap;
 
@@ -41,28 +43,43 @@ impl Counting {
 
 impl Overlay for Counting {
     fn make_order(&self, shape: &Shape, cells: &[i32], order: &mut [u32]) -> u32 {
-        let number = Reference.make_order(shape, cells, order);
+        let number = REFERENCE.make_order(shape, cells, order);
         self.count(format!("order {number}"));
+        if number == 0 && order != sweep_order(&ungrown(shape, cells)) {
+            self.count("order only by margins".into());
+        }
         number
     }
 
     fn row(&self, shape: &Shape, cells: &[i32], row: &[u32]) -> RowTold {
-        let told = Reference.row(shape, cells, row);
+        let told = REFERENCE.row(shape, cells, row);
         self.count(format!("row {} layer {}", told.number, told.layer));
+        if told.layer > 0 {
+            match row_of(&ungrown(shape, cells), row) {
+                None if told.area == 0 => self.count("row that just touches by margins".into()),
+                None => self.count("row only by margins".into()),
+                Some(drawn) if drawn.guard != told.layer => self.count("guard only by margins".into()),
+                Some(drawn) if drawn.area != told.area => self.count("area only by margins".into()),
+                Some(_) => {}
+            }
+        }
         told
     }
 
     fn pair(&self, shape: &Shape, cells: &[i32], places: &[u32]) -> PairTold {
-        let told = Reference.pair(shape, cells, places);
+        let told = REFERENCE.pair(shape, cells, places);
         self.count(format!("pair {} of {} and {}", told.number, told.lower, told.higher));
         if told.number == 0 && told.higher == 0 {
             self.count(format!("pair none of k {}", shape.k));
+            if !share_a_point(&rects_at(&ungrown(shape, cells), places)) {
+                self.count("pair none only by margins".into());
+            }
         }
         told
     }
 
     fn fresh(&self, shape: &Shape, cells: &[i32], order: &[u32]) -> (u32, Ticket) {
-        let (number, ticket) = Reference.fresh(shape, cells, order);
+        let (number, ticket) = REFERENCE.fresh(shape, cells, order);
         self.count(format!("fresh {number} ended {}", ticket.ended));
         (number, ticket)
     }
@@ -76,25 +93,31 @@ impl Overlay for Counting {
         budget: u32,
         table: &mut [u32],
     ) -> Page {
-        let page = Reference.page(shape, cells, order, ticket, budget, table);
+        let page = REFERENCE.page(shape, cells, order, ticket, budget, table);
         self.count_page(shape, &page, budget, table.len());
         page
     }
 
     fn run(&self, shape: &Shape, cells: &[i32], order: &[u32], table: &mut [u32]) -> Run {
-        let run = Reference.run(shape, cells, order, table);
+        let run = REFERENCE.run(shape, cells, order, table);
         self.count(format!("run {}", run.number));
+        if run.number == 0 && join(&ungrown(shape, cells)).len() < run.rows as usize {
+            self.count("run with rows only by margins".into());
+        }
         run
     }
 
     fn read(&self, text: &[u8], cells: &mut [i32]) -> Reading {
-        let reading = Reference.read(text, cells);
+        let reading = REFERENCE.read(text, cells);
         self.count(format!("read {}", reading.number));
+        if reading.shape.margins != [0; 6] {
+            self.count("read margins".into());
+        }
         reading
     }
 
     fn write(&self, shape: &Shape, cells: &[i32], text: &mut [u8]) -> Writing {
-        let writing = Reference.write(shape, cells, text);
+        let writing = REFERENCE.write(shape, cells, text);
         self.count(format!("write {}", writing.number));
         writing
     }
@@ -105,10 +128,10 @@ fn outcomes() -> Vec<String> {
     let mut all = Vec::new();
     let mut add =
         |name: &str, numbers: &[u32]| all.extend(numbers.iter().map(|number| format!("{name} {number}")));
-    add("order", &[0, 1, 2, 3, 4, 8]);
-    add("run", &[0, 1, 2, 3, 4, 5, 7]);
+    add("order", &[0, 1, 2, 17, 3, 4, 8]);
+    add("run", &[0, 1, 2, 17, 3, 4, 5, 7]);
     add("read", &[0, 9, 10, 11]);
-    add("write", &[0, 1, 2, 3, 4, 12]);
+    add("write", &[0, 1, 2, 17, 3, 4, 12]);
     add("row 0 layer", &[0, 1, 2, 3, 4, 5, 6]);
     add("pair none of k", &[2, 3, 4, 5, 6]);
     add("page Ended k", &[2, 3, 4, 5, 6]);
@@ -117,21 +140,24 @@ fn outcomes() -> Vec<String> {
     for k in 2..=6 {
         all.extend((0..=k - 2).map(|filled| format!("ticket filled {filled} of k {k}")));
     }
-    all.extend((1..=4).map(|number| format!("row {number} layer 0")));
-    all.extend([1, 2, 3, 4, 23].map(|number| format!("pair {number} of 0 and 0")));
+    all.extend([1, 2, 17, 3, 4].map(|number| format!("row {number} layer 0")));
+    all.extend([1, 2, 17, 3, 4, 23].map(|number| format!("pair {number} of 0 and 0")));
     all.extend(pairs(6).iter().map(|(lower, higher)| format!("pair 0 of {} and {}", lower + 1, higher + 1)));
-    all.extend((0..=5).map(|number| format!("fresh {number} ended true")));
+    all.extend([0, 1, 2, 17, 3, 4, 5].map(|number| format!("fresh {number} ended true")));
     all.push("fresh 0 ended false".into());
-    all.extend((1..=6).map(|number| format!("page Refused({number})")));
+    all.extend([1, 2, 17, 3, 4, 5, 6].map(|number| format!("page Refused({number})")));
     all.extend(["full table", "spent budget"].map(|what| format!("page Ended with a {what}")));
     all.push("page Full with a spent budget".into());
+    let grown = ["order", "row", "guard", "area", "pair none", "run with rows"];
+    all.extend(grown.map(|what| format!("{what} only by margins")));
+    all.extend(["row that just touches by margins", "read margins"].map(String::from));
     all
 }
 
 #[test]
 fn every_outcome_occurs() {
     let counting = Counting::default();
-    assert!(compare(&counting, &Reference).is_ok());
+    assert!(compare(&counting, &REFERENCE).is_ok());
     let counts = counting.0.borrow();
     for (outcome, count) in counts.iter() {
         println!("{outcome}: {count}");

@@ -4,19 +4,21 @@ use overlay_tests::call::Plan;
 use overlay_tests::overlay::{Overlay, Page, Reading, Run, Shape, Stop, Ticket, Writing};
 use overlay_tests::reference::{
     each_row_by_loops, each_row_by_product, each_tuple, join, layers_of, passes, report, row_of,
-    share_a_point, square_metres, trials_by, walk_length, Rect, Reference,
+    share_a_point, square_metres, trials_by, walk_length, Rect, REFERENCE,
 };
-use overlay_tests::seeds::{equal_plan, order, plan_d, plan_from, shape_of, spell, text, Seeds, STYLES};
+use overlay_tests::seeds::{
+    equal_plan, grown_by, order, plan_d, plan_from, shape_of, spell, text, Seeds, STYLES,
+};
 
 /// A whole run into so many cells.
 fn run(plan: &Plan, cells: usize) -> (Run, Vec<u32>) {
     let mut table = vec![77; cells];
-    (Reference.run(&plan.shape, &plan.cells, &order(plan), &mut table), table)
+    (REFERENCE.run(&plan.shape, &plan.cells, &order(plan), &mut table), table)
 }
 
 /// The fresh ticket.
 fn fresh(plan: &Plan) -> Ticket {
-    let (number, ticket) = Reference.fresh(&plan.shape, &plan.cells, &order(plan));
+    let (number, ticket) = REFERENCE.fresh(&plan.shape, &plan.cells, &order(plan));
     assert_eq!(number, 0);
     ticket
 }
@@ -24,18 +26,18 @@ fn fresh(plan: &Plan) -> Ticket {
 /// A page into so many cells.
 fn page(plan: &Plan, ticket: &Ticket, budget: u32, cells: usize) -> (Page, Vec<u32>) {
     let mut table = vec![77; cells];
-    (Reference.page(&plan.shape, &plan.cells, &order(plan), ticket, budget, &mut table), table)
+    (REFERENCE.page(&plan.shape, &plan.cells, &order(plan), ticket, budget, &mut table), table)
 }
 
 /// The number of a reading, and the cells after it.
 fn read(text: &[u8], cells: usize) -> (Reading, Vec<i32>) {
     let mut lent = vec![77; cells];
-    (Reference.read(text, &mut lent), lent)
+    (REFERENCE.read(text, &mut lent), lent)
 }
 
 /// Plan D's text with its first right replaced.
 fn number_with(right: &str) -> u32 {
-    read(&spell(&format!("PLAN,2/LAYER,1/RECT,0,0,{right},1000/LAYER,0/")), 4).0.number
+    read(&spell(&format!("PLAN,2/LAYER,1,0/RECT,0,0,{right},1000/LAYER,0,0/")), 4).0.number
 }
 
 #[test]
@@ -88,7 +90,7 @@ fn d_without_budget_and_cells_is_full() {
 fn equal_rectangles_have_one_row_with_the_guard_in_layer_1() {
     let plan = equal_plan(&[1, 1], [3, 4, 5, 6]);
     assert_eq!(run(&plan, 2).0, Run { number: 0, rows: 1, trials: 2, area: 4 });
-    let told = Reference.row(&plan.shape, &plan.cells, &[0, 0]);
+    let told = REFERENCE.row(&plan.shape, &plan.cells, &[0, 0]);
     assert_eq!((told.number, told.layer, told.area), (0, 1, 4));
 }
 
@@ -119,7 +121,7 @@ fn touching_is_meeting() {
 #[test]
 fn spellings_of_a_number() {
     assert_eq!(["-0", "07", "1000001", "1000000"].map(number_with), [9, 9, 10, 0]);
-    let (reading, cells) = read(&spell("PLAN,2/LAYER,1/RECT,0,0,1000000,1000/LAYER,0/"), 5);
+    let (reading, cells) = read(&spell("PLAN,2/LAYER,1,0/RECT,0,0,1000000,1000/LAYER,0,0/"), 5);
     assert_eq!(reading, Reading { number: 0, shape: shape_of(&[1, 0]) });
     assert_eq!(cells, [0, 0, 1_000_000, 1000, 77]);
 }
@@ -129,7 +131,7 @@ fn size_512_and_not_513() {
     for (size, number) in [(512, 0), (513, 2)] {
         let plan = equal_plan(&[size, 1], [0, 0, 1, 1]);
         let mut order = vec![9; size as usize + 1];
-        assert_eq!(Reference.make_order(&plan.shape, &plan.cells, &mut order), number);
+        assert_eq!(REFERENCE.make_order(&plan.shape, &plan.cells, &mut order), number);
         let number = if number == 2 { 10 } else { 0 };
         assert_eq!(read(&text(&plan), 5000).0.number, number);
     }
@@ -152,16 +154,17 @@ fn texts_that_10_and_9_part() {
     assert_eq!(number("PLAN,2/"), 10);
     assert_eq!(number("PLAN,9999999/"), 10);
     assert_eq!(number("PLAN,10000000/"), 9);
-    assert_eq!(number("PLAN,9/LAYER,00/"), 9);
-    assert_eq!(number("PLAN,2/PLAN,2/LAYER,0/LAYER,0/"), 9);
-    assert_eq!(number("PLAN,2/RECT,0,0,0,0/LAYER,1/LAYER,0/"), 10);
+    assert_eq!(number("PLAN,9/LAYER,00,0/"), 9);
+    assert_eq!(number("PLAN,2/PLAN,2/LAYER,0,0/LAYER,0,0/"), 9);
+    assert_eq!(number("PLAN,2/RECT,0,0,0,0/LAYER,1,0/LAYER,0,0/"), 10);
 }
 
 #[test]
 fn causes_come_in_the_order_of_the_lines() {
     let mut cells = vec![0, 0, 0, 0];
-    let number =
-        |k, sizes: [u32; 6], cells: &[i32]| Reference.make_order(&Shape { k, sizes }, cells, &mut [0; 9]);
+    let number = |k, sizes: [u32; 6], cells: &[i32]| {
+        REFERENCE.make_order(&Shape { k, sizes, margins: [0; 6] }, cells, &mut [0; 9])
+    };
     assert_eq!(number(1, [u32::MAX; 6], &[1]), 1);
     assert_eq!(number(7, [0; 6], &[]), 1);
     assert_eq!(number(2, [513, 0, 0, 0, 0, 0], &[1]), 2);
@@ -173,13 +176,42 @@ fn causes_come_in_the_order_of_the_lines() {
 }
 
 #[test]
+fn cause_17_stands_behind_2_and_before_3() {
+    let number = |k, sizes: [u32; 6], margins: [u32; 6], cells: &[i32]| {
+        REFERENCE.make_order(&Shape { k, sizes, margins }, cells, &mut [0; 9])
+    };
+    let (one, wide, past) = ([1, 0, 0, 0, 0, 0], [0, 50_001, 0, 0, 0, 0], [0, 0, 1, 0, 0, 0]);
+    assert_eq!(number(1, one, wide, &[]), 1);
+    assert_eq!(number(2, [513, 0, 0, 0, 0, 0], wide, &[]), 2);
+    assert_eq!(number(2, one, wide, &[]), 17);
+    assert_eq!(number(2, one, past, &[1, 0, 0, 0]), 17);
+    assert_eq!(number(3, one, past, &[]), 3);
+    assert_eq!(number(2, one, [50_000, 50_000, 0, 0, 0, 0], &[1, 0, 0, 0]), 4);
+    assert_eq!(number(2, one, [50_000, 50_000, 0, 0, 0, 0], &[-1_000_000; 4]), 8);
+    assert_eq!(number(6, one, [50_000; 6], &[0; 4]), 8);
+}
+
+#[test]
+fn margins_in_texts() {
+    let number = |spelling: &str| read(&spell(spelling), 0).0.number;
+    assert_eq!(number("PLAN,2/LAYER,0,50000/LAYER,0,1/"), 0);
+    assert_eq!(number("PLAN,2/LAYER,0,50001/LAYER,0,1/"), 10);
+    assert_eq!(number("PLAN,2/LAYER,0,-1/LAYER,0,1/"), 10);
+    assert_eq!(number("PLAN,2/LAYER,0/LAYER,0,1/"), 9);
+    assert_eq!(number("PLAN,2/LAYER,0,50001/LAYER,0/"), 9);
+    let told = read(&spell("PLAN,2/LAYER,0,50000/LAYER,0,1/"), 0).0;
+    assert_eq!(told.shape, Shape { margins: [50_000, 1, 0, 0, 0, 0], ..shape_of(&[0, 0]) });
+}
+
+#[test]
 fn report_of_d() {
     assert_eq!(report(&text(&plan_d())), spell("ROW,2,0,0,250000/ROW,1,1,0,0/TOTAL,2,4,0.25/"));
-    let spelling = "PLAN,2/LAYER,2/RECT,0,0,1000,1000/RECT,1000,0,2000,500/LAYER,1/RECT,500,500,1500,1500/";
+    let spelling =
+        "PLAN,2/LAYER,2,0/RECT,0,0,1000,1000/RECT,1000,0,2000,500/LAYER,1,0/RECT,500,500,1500,1500/";
     assert_eq!(text(&plan_d()), spell(spelling));
     let mut buffer = vec![1; 100];
     let length = spelling.len();
-    assert_eq!(Reference.write(&plan_d().shape, &plan_d().cells, &mut buffer), Writing { number: 0, length });
+    assert_eq!(REFERENCE.write(&plan_d().shape, &plan_d().cells, &mut buffer), Writing { number: 0, length });
     assert_eq!((&buffer[..length], &buffer[length..]), (&spell(spelling)[..], &vec![1; 100 - length][..]));
 }
 
@@ -199,13 +231,72 @@ fn report_refusals() {
     assert_eq!(report(&text(&equal_plan(&[64, 97], [0, 0, 0, 0]))), spell("REFUSED,7/"));
     let fits = report(&text(&equal_plan(&[64, 96], [0, 0, 0, 0])));
     assert!(fits.ends_with(&spell("TOTAL,6144,12288,0.00/")));
-    assert_eq!(report(&spell("PLAN,2/LAYER,0/LAYER,0/")), spell("TOTAL,0,0,0.00/"));
+    assert_eq!(report(&spell("PLAN,2/LAYER,0,0/LAYER,0,0/")), spell("TOTAL,0,0,0.00/"));
 }
 
-/// Plans of every k and style.
+/// Plans of every k and style, without margins and with.
 fn plans() -> Vec<Plan> {
     let mut seeds = Seeds(99);
-    (0..5 * STYLES * 6).map(|at| seeds.plan(2 + (at % 5) as usize, (at / 5) % STYLES)).collect()
+    let mut plan = |at| {
+        let plan = seeds.plan(2 + (at % 5) as usize, (at / 5) % STYLES);
+        if at % 2 == 0 {
+            plan
+        } else {
+            seeds.with_margins(plan)
+        }
+    };
+    (0..5 * STYLES * 12).map(&mut plan).collect()
+}
+
+/// The rows of a plan by places and area, in no order.
+fn rows_of(plan: &Plan) -> Vec<([u32; 6], u64)> {
+    let mut rows: Vec<_> =
+        join(&layers_of(&plan.shape, &plan.cells)).iter().map(|row| (row.places, row.area)).collect();
+    rows.sort();
+    rows
+}
+
+#[test]
+fn a_plan_drawn_larger_is_the_plan_with_margins() {
+    for plan in plans().iter().filter(|plan| plan.cells.iter().all(|cell| cell.abs() <= 950_000)) {
+        let grown = layers_of(&plan.shape, &plan.cells).concat();
+        let cells: Vec<i32> = grown.iter().flat_map(|r| [r.left, r.bottom, r.right, r.top]).collect();
+        let larger = Plan { shape: Shape { margins: [0; 6], ..plan.shape }, cells };
+        let k = plan.shape.k as usize;
+        let places = vec![0; k];
+        assert_eq!(order(plan), order(&larger));
+        assert_eq!(run(plan, 9_000), run(&larger, 9_000));
+        assert_eq!(fresh(plan), fresh(&larger));
+        assert_eq!(page(plan, &fresh(plan), 7, 3 * k), page(&larger, &fresh(plan), 7, 3 * k));
+        let told = |plan: &Plan| {
+            let (shape, cells) = (&plan.shape, &plan.cells);
+            (REFERENCE.row(shape, cells, &places), REFERENCE.pair(shape, cells, &places))
+        };
+        assert_eq!(told(plan), told(&larger));
+    }
+}
+
+#[test]
+fn a_larger_margin_loses_no_row() {
+    let mut seeds = Seeds(11);
+    for plan in plans() {
+        let mut wider = plan.clone();
+        for margin in &mut wider.shape.margins[..plan.shape.k as usize] {
+            *margin = (*margin + seeds.below(5) as u32).min(50_000);
+        }
+        let (before, after) = (rows_of(&plan), rows_of(&wider));
+        let kept =
+            |&(places, area): &([u32; 6], u64)| after.iter().any(|row| row.0 == places && row.1 >= area);
+        assert!(before.iter().all(kept));
+    }
+}
+
+#[test]
+fn no_area_is_above_the_largest() {
+    let most = equal_plan(&[1, 1], [-1_000_000, -1_000_000, 1_000_000, 1_000_000]);
+    let most = grown_by(most, &[50_000, 50_000]);
+    assert_eq!(REFERENCE.row(&most.shape, &most.cells, &[0, 0]).area, 4_410_000_000_000);
+    assert!(plans().iter().flat_map(rows_of).all(|(_, area)| area <= 4_410_000_000_000));
 }
 
 #[test]
@@ -241,7 +332,7 @@ fn a_pair_is_told_exactly_where_there_is_no_row() {
     for plan in plans() {
         let layers = layers_of(&plan.shape, &plan.cells);
         each_tuple(&layers, &mut Vec::new(), &mut |places| {
-            let told = Reference.pair(&plan.shape, &plan.cells, places);
+            let told = REFERENCE.pair(&plan.shape, &plan.cells, places);
             assert_eq!(told.number, 0);
             assert_eq!(told.higher == 0, row_of(&layers, places).is_some());
         });

@@ -50,13 +50,26 @@ ghost use Rattle.text.specs.Reader.{readCause, readAnswer, cellsAfter};
 ghost use Rattle.text.specs.Writer.{writeCause, writeLength, bufferAfter};
 ghost use Rattle.cells.specs.Cells.{shapeOf, cursorCells, cursorIn, pageCells, cursorAfter, runCells, rowCells, acrossIn, upwardIn, pairCells};
 
-// The first of the causes 1 to 4 that applies to a plan.
+// The first of the causes 1 to 4 and 17 that applies to a plan.
 #[no_mangle]
-pub extern "C" fn overlay_plan_cause(k: u32, sizes: &[u32; 6], cells: &[i32]) -> u32
-    ensures { λ r. ⌜ r ≡ planCause (shapeOf k (now (sizes .entry))) (now (cells .entry)) ⌝ }
+pub extern "C" fn overlay_plan_cause(
+    k: u32,
+    sizes: &[u32; 6],
+    margins: &[u32; 6],
+    cells: &[i32],
+) -> u32
+    ensures { λ r. ⌜ r ≡ planCause (shapeOf k (now (sizes .entry)) (now (margins .entry))) (now (cells .entry)) ⌝ }
 {
     let six = *sizes;
-    plan_cause(Shape { k, sizes: six }, cells)
+    let wide = *margins;
+    plan_cause(
+        Shape {
+            k,
+            sizes: six,
+            margins: wide,
+        },
+        cells,
+    )
 }
 
 // Makes the sweep order of a plan.
@@ -64,23 +77,48 @@ pub extern "C" fn overlay_plan_cause(k: u32, sizes: &[u32; 6], cells: &[i32]) ->
 pub extern "C" fn overlay_make_order(
     k: u32,
     sizes: &[u32; 6],
+    margins: &[u32; 6],
     cells: &[i32],
     order: &mut [u32],
 ) -> u32
-    ensures number { λ r. ⌜ r ≡ makeCause (shapeOf k (now (sizes .entry))) (now (cells .entry)) (now (order .entry)) ⌝ }
-    ensures buffer { λ _. ⌜ now (order .exit) ≡ orderAfter (shapeOf k (now (sizes .entry))) (now (cells .entry)) (now (order .entry)) ⌝ }
+    ensures number { λ r. ⌜ r ≡ makeCause (shapeOf k (now (sizes .entry)) (now (margins .entry))) (now (cells .entry)) (now (order .entry)) ⌝ }
+    ensures buffer { λ _. ⌜ now (order .exit) ≡ orderAfter (shapeOf k (now (sizes .entry)) (now (margins .entry))) (now (cells .entry)) (now (order .entry)) ⌝ }
 {
     let six = *sizes;
-    order_number(make_order(Shape { k, sizes: six }, cells, order))
+    let wide = *margins;
+    order_number(make_order(
+        Shape {
+            k,
+            sizes: six,
+            margins: wide,
+        },
+        cells,
+        order,
+    ))
 }
 
-// The first of the causes 1 to 5 that applies to a plan and an order.
+// The first of the causes 1 to 5 and 17 that applies to a plan and an order.
 #[no_mangle]
-pub extern "C" fn overlay_order_cause(k: u32, sizes: &[u32; 6], cells: &[i32], order: &[u32]) -> u32
-    ensures { λ r. ⌜ r ≡ orderCause (shapeOf k (now (sizes .entry))) (now (cells .entry)) (now (order .entry)) ⌝ }
+pub extern "C" fn overlay_order_cause(
+    k: u32,
+    sizes: &[u32; 6],
+    margins: &[u32; 6],
+    cells: &[i32],
+    order: &[u32],
+) -> u32
+    ensures { λ r. ⌜ r ≡ orderCause (shapeOf k (now (sizes .entry)) (now (margins .entry))) (now (cells .entry)) (now (order .entry)) ⌝ }
 {
     let six = *sizes;
-    order_cause(Shape { k, sizes: six }, cells, order)
+    let wide = *margins;
+    order_cause(
+        Shape {
+            k,
+            sizes: six,
+            margins: wide,
+        },
+        cells,
+        order,
+    )
 }
 
 // What the lent places name in the table of a plan. The answer's cells: the guard's layer, the area.
@@ -88,15 +126,25 @@ pub extern "C" fn overlay_order_cause(k: u32, sizes: &[u32; 6], cells: &[i32], o
 pub extern "C" fn overlay_row(
     k: u32,
     sizes: &[u32; 6],
+    margins: &[u32; 6],
     cells: &[i32],
     places: &[u32],
     answer: &mut [u64; 2],
 ) -> u32
-    ensures number { λ r. ⌜ r ≡ rowValues (rowCall (shapeOf k (now (sizes .entry))) (now (cells .entry)) (now (places .entry))) .number ⌝ }
-    ensures answer { λ _. ⌜ now (answer .exit) ≡ rowCells (rowValues (rowCall (shapeOf k (now (sizes .entry))) (now (cells .entry)) (now (places .entry)))) ⌝ }
+    ensures number { λ r. ⌜ r ≡ rowValues (rowCall (shapeOf k (now (sizes .entry)) (now (margins .entry))) (now (cells .entry)) (now (places .entry))) .number ⌝ }
+    ensures answer { λ _. ⌜ now (answer .exit) ≡ rowCells (rowValues (rowCall (shapeOf k (now (sizes .entry)) (now (margins .entry))) (now (cells .entry)) (now (places .entry)))) ⌝ }
 {
     let six = *sizes;
-    let told = row(Shape { k, sizes: six }, cells, places);
+    let wide = *margins;
+    let told = row(
+        Shape {
+            k,
+            sizes: six,
+            margins: wide,
+        },
+        cells,
+        places,
+    );
     *answer = row_cells(told);
     row_number(told)
 }
@@ -106,15 +154,25 @@ pub extern "C" fn overlay_row(
 pub extern "C" fn overlay_nearest(
     k: u32,
     sizes: &[u32; 6],
+    margins: &[u32; 6],
     cells: &[i32],
     around: &[i32; 4],
     answer: &mut [u64; 18],
 ) -> u32
-    ensures number { λ r. ⌜ r ≡ nearestCall (shapeOf k (now (sizes .entry))) (now (cells .entry)) (rectAt (now (around .entry)) 0) .number ⌝ }
-    ensures answer { λ _. ⌜ now (answer .exit) ≡ nearCells (nearestCall (shapeOf k (now (sizes .entry))) (now (cells .entry)) (rectAt (now (around .entry)) 0)) ⌝ }
+    ensures number { λ r. ⌜ r ≡ nearestCall (shapeOf k (now (sizes .entry)) (now (margins .entry))) (now (cells .entry)) (rectAt (now (around .entry)) 0) .number ⌝ }
+    ensures answer { λ _. ⌜ now (answer .exit) ≡ nearCells (nearestCall (shapeOf k (now (sizes .entry)) (now (margins .entry))) (now (cells .entry)) (rectAt (now (around .entry)) 0)) ⌝ }
 {
     let six = *sizes;
-    let told = nearest(Shape { k, sizes: six }, cells, rect_at(around, 0));
+    let wide = *margins;
+    let told = nearest(
+        Shape {
+            k,
+            sizes: six,
+            margins: wide,
+        },
+        cells,
+        rect_at(around, 0),
+    );
     *answer = near_cells(told);
     told.number
 }
@@ -125,15 +183,25 @@ pub extern "C" fn overlay_nearest(
 pub extern "C" fn overlay_apart_pair(
     k: u32,
     sizes: &[u32; 6],
+    margins: &[u32; 6],
     cells: &[i32],
     places: &[u32],
     answer: &mut [u64; 2],
 ) -> u32
-    ensures number { λ r. ⌜ r ≡ pairValues (pairCall (shapeOf k (now (sizes .entry))) (now (cells .entry)) (now (places .entry))) .number ⌝ }
-    ensures answer { λ _. ⌜ now (answer .exit) ≡ pairCells (pairValues (pairCall (shapeOf k (now (sizes .entry))) (now (cells .entry)) (now (places .entry)))) ⌝ }
+    ensures number { λ r. ⌜ r ≡ pairValues (pairCall (shapeOf k (now (sizes .entry)) (now (margins .entry))) (now (cells .entry)) (now (places .entry))) .number ⌝ }
+    ensures answer { λ _. ⌜ now (answer .exit) ≡ pairCells (pairValues (pairCall (shapeOf k (now (sizes .entry)) (now (margins .entry))) (now (cells .entry)) (now (places .entry)))) ⌝ }
 {
     let six = *sizes;
-    let told = apart_pair(Shape { k, sizes: six }, cells, places);
+    let wide = *margins;
+    let told = apart_pair(
+        Shape {
+            k,
+            sizes: six,
+            margins: wide,
+        },
+        cells,
+        places,
+    );
     *answer = pair_cells(told);
     pair_number(told)
 }
@@ -143,15 +211,25 @@ pub extern "C" fn overlay_apart_pair(
 pub extern "C" fn overlay_fresh_cursor(
     k: u32,
     sizes: &[u32; 6],
+    margins: &[u32; 6],
     cells: &[i32],
     order: &[u32],
     cursor: &mut [u32; 10],
 ) -> u32
-    ensures number { λ r. ⌜ r ≡ freshCall (shapeOf k (now (sizes .entry))) (now (cells .entry)) (now (order .entry)) .number ⌝ }
-    ensures cursor { λ _. ⌜ now (cursor .exit) ≡ cursorCells (freshCall (shapeOf k (now (sizes .entry))) (now (cells .entry)) (now (order .entry)) .cursor) ⌝ }
+    ensures number { λ r. ⌜ r ≡ freshCall (shapeOf k (now (sizes .entry)) (now (margins .entry))) (now (cells .entry)) (now (order .entry)) .number ⌝ }
+    ensures cursor { λ _. ⌜ now (cursor .exit) ≡ cursorCells (freshCall (shapeOf k (now (sizes .entry)) (now (margins .entry))) (now (cells .entry)) (now (order .entry)) .cursor) ⌝ }
 {
     let six = *sizes;
-    let fresh = fresh_cursor(Shape { k, sizes: six }, cells, order);
+    let wide = *margins;
+    let fresh = fresh_cursor(
+        Shape {
+            k,
+            sizes: six,
+            margins: wide,
+        },
+        cells,
+        order,
+    );
     let first = fresh.cursor;
     *cursor = cursor_cells(first);
     fresh.number
@@ -162,6 +240,7 @@ pub extern "C" fn overlay_fresh_cursor(
 pub extern "C" fn overlay_fetch_page(
     k: u32,
     sizes: &[u32; 6],
+    margins: &[u32; 6],
     cells: &[i32],
     order: &[u32],
     cursor: &mut [u32; 10],
@@ -169,14 +248,26 @@ pub extern "C" fn overlay_fetch_page(
     table: &mut [u32],
     answer: &mut [u64; 4],
 ) -> u32
-    ensures number { λ r. ⌜ r ≡ pageCause (shapeOf k (now (sizes .entry))) (now (cells .entry)) (now (order .entry)) (cursorIn (now (cursor .entry))) ⌝ }
-    ensures answer { λ _. ⌜ now (answer .exit) ≡ pageCells (pageCall (shapeOf k (now (sizes .entry))) (now (cells .entry)) (now (order .entry)) (cursorIn (now (cursor .entry))) budget (now (table .entry))) ⌝ }
-    ensures cursor { λ _. ⌜ now (cursor .exit) ≡ cursorAfter (now (cursor .entry)) (pageCall (shapeOf k (now (sizes .entry))) (now (cells .entry)) (now (order .entry)) (cursorIn (now (cursor .entry))) budget (now (table .entry))) ⌝ }
-    ensures table { λ _. ⌜ now (table .exit) ≡ pageTable (shapeOf k (now (sizes .entry))) (now (cells .entry)) (now (order .entry)) (cursorIn (now (cursor .entry))) budget (now (table .entry)) ⌝ }
+    ensures number { λ r. ⌜ r ≡ pageCause (shapeOf k (now (sizes .entry)) (now (margins .entry))) (now (cells .entry)) (now (order .entry)) (cursorIn (now (cursor .entry))) ⌝ }
+    ensures answer { λ _. ⌜ now (answer .exit) ≡ pageCells (pageCall (shapeOf k (now (sizes .entry)) (now (margins .entry))) (now (cells .entry)) (now (order .entry)) (cursorIn (now (cursor .entry))) budget (now (table .entry))) ⌝ }
+    ensures cursor { λ _. ⌜ now (cursor .exit) ≡ cursorAfter (now (cursor .entry)) (pageCall (shapeOf k (now (sizes .entry)) (now (margins .entry))) (now (cells .entry)) (now (order .entry)) (cursorIn (now (cursor .entry))) budget (now (table .entry))) ⌝ }
+    ensures table { λ _. ⌜ now (table .exit) ≡ pageTable (shapeOf k (now (sizes .entry)) (now (margins .entry))) (now (cells .entry)) (now (order .entry)) (cursorIn (now (cursor .entry))) budget (now (table .entry)) ⌝ }
 {
     let six = *sizes;
+    let wide = *margins;
     let from = cursor_in(cursor);
-    let page = fetch_page(Shape { k, sizes: six }, cells, order, from, budget, table);
+    let page = fetch_page(
+        Shape {
+            k,
+            sizes: six,
+            margins: wide,
+        },
+        cells,
+        order,
+        from,
+        budget,
+        table,
+    );
     *answer = page_cells(page);
     *cursor = cursor_after(cursor, page);
     let stop = page.stop;
@@ -188,17 +279,28 @@ pub extern "C" fn overlay_fetch_page(
 pub extern "C" fn overlay_run_all(
     k: u32,
     sizes: &[u32; 6],
+    margins: &[u32; 6],
     cells: &[i32],
     order: &[u32],
     table: &mut [u32],
     answer: &mut [u64; 3],
 ) -> u32
-    ensures number { λ r. ⌜ r ≡ runValues (runCall (shapeOf k (now (sizes .entry))) (now (cells .entry)) (now (order .entry)) (now (table .entry))) .number ⌝ }
-    ensures answer { λ _. ⌜ now (answer .exit) ≡ runCells (runValues (runCall (shapeOf k (now (sizes .entry))) (now (cells .entry)) (now (order .entry)) (now (table .entry)))) ⌝ }
-    ensures table { λ _. ⌜ now (table .exit) ≡ runTable (shapeOf k (now (sizes .entry))) (now (cells .entry)) (now (order .entry)) (now (table .entry)) ⌝ }
+    ensures number { λ r. ⌜ r ≡ runValues (runCall (shapeOf k (now (sizes .entry)) (now (margins .entry))) (now (cells .entry)) (now (order .entry)) (now (table .entry))) .number ⌝ }
+    ensures answer { λ _. ⌜ now (answer .exit) ≡ runCells (runValues (runCall (shapeOf k (now (sizes .entry)) (now (margins .entry))) (now (cells .entry)) (now (order .entry)) (now (table .entry)))) ⌝ }
+    ensures table { λ _. ⌜ now (table .exit) ≡ runTable (shapeOf k (now (sizes .entry)) (now (margins .entry))) (now (cells .entry)) (now (order .entry)) (now (table .entry)) ⌝ }
 {
     let six = *sizes;
-    let run = run_all(Shape { k, sizes: six }, cells, order, table);
+    let wide = *margins;
+    let run = run_all(
+        Shape {
+            k,
+            sizes: six,
+            margins: wide,
+        },
+        cells,
+        order,
+        table,
+    );
     *answer = run_cells(run);
     run_number(run)
 }
@@ -209,15 +311,25 @@ pub extern "C" fn overlay_run_all(
 pub extern "C" fn overlay_row_class(
     k: u32,
     sizes: &[u32; 6],
+    margins: &[u32; 6],
     cells: &[i32],
     places: &[u32],
     told: &mut u32,
 ) -> u32
-    ensures number { λ r. ⌜ r ≡ classValues (classCall (shapeOf k (now (sizes .entry))) (now (cells .entry)) (now (places .entry))) .number ⌝ }
-    ensures told { λ _. ⌜ now (told .exit) ≡ classValues (classCall (shapeOf k (now (sizes .entry))) (now (cells .entry)) (now (places .entry))) .class ⌝ }
+    ensures number { λ r. ⌜ r ≡ classValues (classCall (shapeOf k (now (sizes .entry)) (now (margins .entry))) (now (cells .entry)) (now (places .entry))) .number ⌝ }
+    ensures told { λ _. ⌜ now (told .exit) ≡ classValues (classCall (shapeOf k (now (sizes .entry)) (now (margins .entry))) (now (cells .entry)) (now (places .entry))) .class ⌝ }
 {
     let six = *sizes;
-    let class = class_of(Shape { k, sizes: six }, cells, places);
+    let wide = *margins;
+    let class = class_of(
+        Shape {
+            k,
+            sizes: six,
+            margins: wide,
+        },
+        cells,
+        places,
+    );
     *told = class_cell(class);
     class_number(class)
 }
@@ -227,19 +339,30 @@ pub extern "C" fn overlay_row_class(
 pub extern "C" fn overlay_crossing_report(
     k: u32,
     sizes: &[u32; 6],
+    margins: &[u32; 6],
     cells: &[i32],
     order: &[u32],
     table: &mut [u32],
     answer: &mut [u64; 3],
     counts: &mut [u32; 17],
 ) -> u32
-    ensures number { λ r. ⌜ r ≡ runValues (crossingCall (shapeOf k (now (sizes .entry))) (now (cells .entry)) (now (order .entry)) (now (table .entry)) .run) .number ⌝ }
-    ensures answer { λ _. ⌜ now (answer .exit) ≡ runCells (runValues (crossingCall (shapeOf k (now (sizes .entry))) (now (cells .entry)) (now (order .entry)) (now (table .entry)) .run)) ⌝ }
-    ensures counts { λ _. ⌜ now (counts .exit) ≡ crossingCall (shapeOf k (now (sizes .entry))) (now (cells .entry)) (now (order .entry)) (now (table .entry)) .counts ⌝ }
-    ensures table { λ _. ⌜ now (table .exit) ≡ crossingTable (shapeOf k (now (sizes .entry))) (now (cells .entry)) (now (order .entry)) (now (table .entry)) ⌝ }
+    ensures number { λ r. ⌜ r ≡ runValues (crossingCall (shapeOf k (now (sizes .entry)) (now (margins .entry))) (now (cells .entry)) (now (order .entry)) (now (table .entry)) .run) .number ⌝ }
+    ensures answer { λ _. ⌜ now (answer .exit) ≡ runCells (runValues (crossingCall (shapeOf k (now (sizes .entry)) (now (margins .entry))) (now (cells .entry)) (now (order .entry)) (now (table .entry)) .run)) ⌝ }
+    ensures counts { λ _. ⌜ now (counts .exit) ≡ crossingCall (shapeOf k (now (sizes .entry)) (now (margins .entry))) (now (cells .entry)) (now (order .entry)) (now (table .entry)) .counts ⌝ }
+    ensures table { λ _. ⌜ now (table .exit) ≡ crossingTable (shapeOf k (now (sizes .entry)) (now (margins .entry))) (now (cells .entry)) (now (order .entry)) (now (table .entry)) ⌝ }
 {
     let six = *sizes;
-    let report = crossing_report(Shape { k, sizes: six }, cells, order, table);
+    let wide = *margins;
+    let report = crossing_report(
+        Shape {
+            k,
+            sizes: six,
+            margins: wide,
+        },
+        cells,
+        order,
+        table,
+    );
     let run = report.run;
     let seventeen = report.counts;
     *answer = run_cells(run);
@@ -247,24 +370,28 @@ pub extern "C" fn overlay_crossing_report(
     run_number(run)
 }
 
-// Reads a plan text into lent cells; k and the sizes are left in theirs.
+// Reads a plan text into lent cells; k, the sizes and the margins are left in theirs.
 #[no_mangle]
 pub extern "C" fn overlay_read_text(
     text: &[u8],
     cells: &mut [i32],
     k: &mut u32,
     sizes: &mut [u32; 6],
+    margins: &mut [u32; 6],
 ) -> u32
     ensures number { λ r. ⌜ r ≡ readCause (length (now (cells .entry))) (now (text .entry)) ⌝ }
     ensures k { λ _. ⌜ now (k .exit) ≡ readAnswer (length (now (cells .entry))) (now (text .entry)) .shape .k ⌝ }
     ensures sizes { λ _. ⌜ now (sizes .exit) ≡ readAnswer (length (now (cells .entry))) (now (text .entry)) .shape .sizes ⌝ }
+    ensures margins { λ _. ⌜ now (margins .exit) ≡ readAnswer (length (now (cells .entry))) (now (text .entry)) .shape .margins ⌝ }
     ensures cells { λ _. ⌜ now (cells .exit) ≡ cellsAfter (now (text .entry)) (now (cells .entry)) ⌝ }
 {
     let reading = read(text, cells);
     let shape = reading.shape;
     let six = shape.sizes;
+    let wide = shape.margins;
     *k = shape.k;
     *sizes = six;
+    *margins = wide;
     reading.number
 }
 
@@ -273,16 +400,26 @@ pub extern "C" fn overlay_read_text(
 pub extern "C" fn overlay_write_text(
     k: u32,
     sizes: &[u32; 6],
+    margins: &[u32; 6],
     cells: &[i32],
     text: &mut [u8],
     size: &mut usize,
 ) -> u32
-    ensures number { λ r. ⌜ r ≡ writeCause (shapeOf k (now (sizes .entry))) (now (cells .entry)) (length (now (text .entry))) ⌝ }
-    ensures size { λ _. ⌜ now (size .exit) ≡ writeLength (shapeOf k (now (sizes .entry))) (now (cells .entry)) (length (now (text .entry))) ⌝ }
-    ensures text { λ _. ⌜ now (text .exit) ≡ bufferAfter (shapeOf k (now (sizes .entry))) (now (cells .entry)) (now (text .entry)) ⌝ }
+    ensures number { λ r. ⌜ r ≡ writeCause (shapeOf k (now (sizes .entry)) (now (margins .entry))) (now (cells .entry)) (length (now (text .entry))) ⌝ }
+    ensures size { λ _. ⌜ now (size .exit) ≡ writeLength (shapeOf k (now (sizes .entry)) (now (margins .entry))) (now (cells .entry)) (length (now (text .entry))) ⌝ }
+    ensures text { λ _. ⌜ now (text .exit) ≡ bufferAfter (shapeOf k (now (sizes .entry)) (now (margins .entry))) (now (cells .entry)) (now (text .entry)) ⌝ }
 {
     let six = *sizes;
-    let writing = write(Shape { k, sizes: six }, cells, text);
+    let wide = *margins;
+    let writing = write(
+        Shape {
+            k,
+            sizes: six,
+            margins: wide,
+        },
+        cells,
+        text,
+    );
     *size = written_length(writing);
     written_number(writing)
 }

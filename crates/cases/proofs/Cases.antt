@@ -9,9 +9,9 @@ use lib.ListN.{length, getD-replicate, length-replicate}
 use borrow.Author.Tests.{le-leb, eq-eqb}
 use Rattle.lists.specs.Lists.{All, none-left, _and_, same}
 use Rattle.totals.specs.Totals.{totalOf, valueOf}
-use Rattle.geometry.specs.Rectangles.{maxZ, minZ, common, nonempty, meets, between, held, inRange, areaOf}
+use Rattle.geometry.specs.Rectangles.{maxZ, minZ, common, nonempty, meets, between, held, inRange, grownBy, areaOf}
 use Rattle.geometry.proofs.Machine.{rect-eq}
-use Rattle.plan.specs.Plan.{rectAt, sizeFits, planCause}
+use Rattle.plan.specs.Plan.{rectAt, grown, fitsAt, planCause}
 use Rattle.plan.proofs.Plan.{ranged-all}
 use Rattle.sweep.specs.Sweep.{before, sweepOrder, orderCause}
 use Rattle.join.specs.Join.{areaIn, sameZ}
@@ -43,7 +43,7 @@ point-at n i h =
     (getD-replicate (4 * n) (4 * i + 3) (pos 0) (pos 0) (omega arith))
 
 one-layer : (n : ℕ) → n ≤ 512 → planCause (shape 2 n 0 0) (alike n) ≡ 0
-unfolding planCause sizeFits
+unfolding planCause fitsAt
 one-layer n h =
     let l : length (alike n) ≡ 4 * n = length-replicate (4 * n) (pos 0) in
     rw (
@@ -58,7 +58,7 @@ _also_ : {c : Case} {cs : List Case} → Holds c → All Holds cs → All Holds 
 _also_ h hs = _and_ h hs
 
 pub ground-holds : GroundHolds
-unfolding totalOf valueOf maxZ minZ common nonempty meets between held areaOf rectAt sizeFits planCause before sweepOrder orderCause areaIn sameZ same-spot belongs tableOf isRow rowCall walkOf same sameCursor resume freshCall pageCause pageCall pageTable readCause textShape textCells linesOf line number kindOf shapeIn agrees size decimal Lines.lineOf rowFields squareMetres runCause runCall emptyTable reportCause reportOf
+unfolding totalOf valueOf maxZ minZ common nonempty meets between held areaOf rectAt grownBy grown fitsAt planCause before sweepOrder orderCause areaIn sameZ same-spot belongs tableOf isRow rowCall walkOf same sameCursor resume freshCall pageCause pageCall pageTable readCause textShape textCells linesOf line number kindOf shapeIn agrees size decimal Lines.lineOf rowFields squareMetres runCause runCall emptyTable reportCause reportOf
 ground-holds =
     (refl, refl, refl)
     also (refl, refl, refl, refl, refl, refl, (refl, refl, refl, refl, refl, refl, tt))
@@ -93,5 +93,20 @@ ground-holds =
     also (refl, refl)
     also (refl, refl)
     also (refl, refl)
+    also refl
+    also refl
+    also refl
+    also refl
+    also (refl, refl)
+    also (refl, refl)
+    also (refl, refl)
+    also (refl, refl)
+    also (refl, refl)
+    also (refl, refl)
+    also (refl, refl)
+    also (refl, refl)
+    also (refl, refl)
+    also (refl, refl, refl)
+    also (refl, refl, refl)
     also (refl, refl, refl)
     also none-left

@@ -12,7 +12,7 @@ use lib.ListN.{length, replicate}
 use Rattle.lists.specs.Lists.{All}
 use Rattle.totals.specs.Totals.{valueOf}
 use Rattle.plan.specs.declared.Shape.{Shape}
-use Rattle.plan.specs.Plan.{sizesOf, planCause}
+use Rattle.plan.specs.Plan.{sizesOf, planCause, grown}
 use Rattle.sweep.specs.Sweep.{sweepOrder}
 use Rattle.join.specs.Table.{tableOf}
 use Rattle.rows.specs.RowCall.{rowCall, rowValues}
@@ -69,18 +69,18 @@ toldRow s cells row = let v = rowValues (rowCall s cells row) in record { layer 
 abbrev pub Turns : Shape → List ℤ → Cursor → List Turn → Type 0
 Turns s cells c [] = Unit {0}
 Turns s cells c (t ∷ ts) =
-    let p = pageCall s cells (sweepOrder cells) c (t .budget) (t .table) in
+    let p = pageCall s cells (sweepOrder (grown s cells)) c (t .budget) (t .table) in
     (p .stop ≡ t .stop) × (p .rows ≡ t .rows) × (p .probes ≡ t .probes) × (valueOf (p .area) ≡ t .area)
-    × (pageTable s cells (sweepOrder cells) c (t .budget) (t .table) ≡ t .after)
+    × (pageTable s cells (sweepOrder (grown s cells)) c (t .budget) (t .table) ≡ t .after)
     × (p .cursor ≡ t .due)
     × Turns s cells (p .cursor) ts
 
 abbrev pub Holds : Case → Type 0
 Holds (Caused s cells cause) = planCause s cells ≡ cause
-Holds (Listed s cells rows probes) = (planCause s cells ≡ 0) × (map (toldRow s cells) (tableOf (sizesOf s) cells) ≡ rows) × (length (walkOf (sizesOf s) cells) ≡ probes)
-Holds (Fresh s cells c) = freshCall s cells (sweepOrder cells) ≡ record { number = 0; cursor = c }
+Holds (Listed s cells rows probes) = (planCause s cells ≡ 0) × (map (toldRow s cells) (tableOf (sizesOf s) (grown s cells)) ≡ rows) × (length (walkOf (sizesOf s) (grown s cells)) ≡ probes)
+Holds (Fresh s cells c) = freshCall s cells (sweepOrder (grown s cells)) ≡ record { number = 0; cursor = c }
 Holds (Read t cells r after) = (readAnswer (length cells) t ≡ r) × (cellsAfter t cells ≡ after)
-Holds (Paged s cells ts) = Turns s cells (freshCall s cells (sweepOrder cells) .cursor) ts
+Holds (Paged s cells ts) = Turns s cells (freshCall s cells (sweepOrder (grown s cells)) .cursor) ts
 Holds (Rounded area printed) = squareMetres (hundredths area) ≡ printed
 Holds (Reported t printed) = reportOf t ≡ printed
 
@@ -88,8 +88,12 @@ Holds (Reported t printed) = reportOf t ≡ printed
 abbrev pub box : (left bottom right top : ℕ) → List ℤ → List ℤ
 box l b r t rest = pos l ∷ pos b ∷ pos r ∷ pos t ∷ rest
 
+abbrev pub margined : (first second third : ℕ) (k a b c : ℕ) → Shape
+margined m n o k a b c = record { k = k; sizes = a ∷ b ∷ c ∷ 0 ∷ 0 ∷ 0 ∷ []; margins = m ∷ n ∷ o ∷ 0 ∷ 0 ∷ 0 ∷ [] }
+
+-- with all margins 0
 abbrev pub shape : (k first second third : ℕ) → Shape
-shape k a b c = record { k = k; sizes = a ∷ b ∷ c ∷ 0 ∷ 0 ∷ 0 ∷ [] }
+shape = margined 0 0 0
 
 abbrev pub row : ℕ → List ℕ → ℕ → Told
 row layer places area = record { layer = layer; places = places; area = area }
@@ -139,20 +143,20 @@ bytes (String._∷_ c s) = code c ∷ bytes s
 
 -- a text that is sound where the right of its RECT, spelled so, is from 0 to 1000000
 abbrev pub textWith : String → List ℕ
-textWith right = bytes "PLAN\t2\nLAYER\t1\nRECT\t0\t0\t" ++ bytes right ++ bytes "\t5\nLAYER\t0\n"
+textWith right = bytes "PLAN\t2\nLAYER\t1\t0\nRECT\t0\t0\t" ++ bytes right ++ bytes "\t5\nLAYER\t0\t0\n"
 
 -- that it is refused: the lent cells stay
 abbrev pub isRefused : List ℕ → ℕ → Case
 isRefused t cause = Read t (box 7 7 7 7 []) (record { number = cause; shape = shape 0 0 0 0 }) (box 7 7 7 7 [])
 
--- the plan D as a text, byte by byte: PLAN 2 / LAYER 2 / RECT 0 0 1000 1000 / RECT 1000 0 2000 500 / LAYER 1 / RECT 500 500 1500 1500
+-- the plan D as a text, byte by byte: PLAN 2 / LAYER 2 0 / RECT 0 0 1000 1000 / RECT 1000 0 2000 500 / LAYER 1 0 / RECT 500 500 1500 1500
 abbrev pub dText : List ℕ
 dText =
     80 ∷ 76 ∷ 65 ∷ 78 ∷ 9 ∷ 50 ∷ 10
-    ∷ 76 ∷ 65 ∷ 89 ∷ 69 ∷ 82 ∷ 9 ∷ 50 ∷ 10
+    ∷ 76 ∷ 65 ∷ 89 ∷ 69 ∷ 82 ∷ 9 ∷ 50 ∷ 9 ∷ 48 ∷ 10
     ∷ 82 ∷ 69 ∷ 67 ∷ 84 ∷ 9 ∷ 48 ∷ 9 ∷ 48 ∷ 9 ∷ 49 ∷ 48 ∷ 48 ∷ 48 ∷ 9 ∷ 49 ∷ 48 ∷ 48 ∷ 48 ∷ 10
     ∷ 82 ∷ 69 ∷ 67 ∷ 84 ∷ 9 ∷ 49 ∷ 48 ∷ 48 ∷ 48 ∷ 9 ∷ 48 ∷ 9 ∷ 50 ∷ 48 ∷ 48 ∷ 48 ∷ 9 ∷ 53 ∷ 48 ∷ 48 ∷ 10
-    ∷ 76 ∷ 65 ∷ 89 ∷ 69 ∷ 82 ∷ 9 ∷ 49 ∷ 10
+    ∷ 76 ∷ 65 ∷ 89 ∷ 69 ∷ 82 ∷ 9 ∷ 49 ∷ 9 ∷ 48 ∷ 10
     ∷ 82 ∷ 69 ∷ 67 ∷ 84 ∷ 9 ∷ 53 ∷ 48 ∷ 48 ∷ 9 ∷ 53 ∷ 48 ∷ 48 ∷ 9 ∷ 49 ∷ 53 ∷ 48 ∷ 48 ∷ 9 ∷ 49 ∷ 53 ∷ 48 ∷ 48 ∷ 10
     ∷ []
 
@@ -164,14 +168,14 @@ dReport =
     ∷ 84 ∷ 79 ∷ 84 ∷ 65 ∷ 76 ∷ 9 ∷ 50 ∷ 9 ∷ 52 ∷ 9 ∷ 48 ∷ 46 ∷ 50 ∷ 53 ∷ 10
     ∷ []
 
--- PLAN 2 / LAYER 1 / RECT -30 -4, a right, 5 / LAYER 0, byte by byte
+-- PLAN 2 / LAYER 1 0 / RECT -30 -4, a right, 5 / LAYER 0 0, byte by byte
 abbrev pub bytesWith : List ℕ → List ℕ
 bytesWith right =
     80 ∷ 76 ∷ 65 ∷ 78 ∷ 9 ∷ 50 ∷ 10
-    ∷ 76 ∷ 65 ∷ 89 ∷ 69 ∷ 82 ∷ 9 ∷ 49 ∷ 10
+    ∷ 76 ∷ 65 ∷ 89 ∷ 69 ∷ 82 ∷ 9 ∷ 49 ∷ 9 ∷ 48 ∷ 10
     ∷ 82 ∷ 69 ∷ 67 ∷ 84 ∷ 9 ∷ 45 ∷ 51 ∷ 48 ∷ 9 ∷ 45 ∷ 52 ∷ 9
     ∷ (right ++ 9 ∷ 53 ∷ 10
-    ∷ 76 ∷ 65 ∷ 89 ∷ 69 ∷ 82 ∷ 9 ∷ 48 ∷ 10 ∷ [])
+    ∷ 76 ∷ 65 ∷ 89 ∷ 69 ∷ 82 ∷ 9 ∷ 48 ∷ 9 ∷ 48 ∷ 10 ∷ [])
 
 -- REFUSED 9
 abbrev pub refusedNine : List ℕ
@@ -179,7 +183,7 @@ refusedNine = 82 ∷ 69 ∷ 70 ∷ 85 ∷ 83 ∷ 69 ∷ 68 ∷ 9 ∷ 57 ∷ 10 �
 
 -- a plan of two rows of 4,900 square millimetres, and its report
 abbrev pub smallText : List ℕ
-smallText = bytes "PLAN\t2\nLAYER\t1\nRECT\t0\t0\t70\t70\nLAYER\t2\nRECT\t0\t0\t70\t70\nRECT\t0\t0\t70\t70\n"
+smallText = bytes "PLAN\t2\nLAYER\t1\t0\nRECT\t0\t0\t70\t70\nLAYER\t2\t0\nRECT\t0\t0\t70\t70\nRECT\t0\t0\t70\t70\n"
 
 abbrev pub smallReport : List ℕ
 smallReport = bytes "ROW\t1\t0\t0\t4900\nROW\t1\t0\t1\t4900\nTOTAL\t2\t4\t0.01\n"
@@ -212,7 +216,7 @@ cases =
     ∷ Read (textWith "1000000") (box 7 7 7 7 (pos 7 ∷ [])) (record { number = 0; shape = shape 2 1 0 0 }) (box 0 0 1000000 5 (pos 7 ∷ []))
     -- "Empty text gives 9. A text without its last byte 10 gives 9."
     ∷ isRefused [] 9
-    ∷ isRefused (bytes "PLAN\t2\nLAYER\t0\nLAYER\t0") 9
+    ∷ isRefused (bytes "PLAN\t2\nLAYER\t0\t0\nLAYER\t0\t0") 9
     -- "512 is a size, 513 gives 2"
     ∷ Caused (shape 2 512 0 0) (alike 512) 0
     ∷ Caused (shape 2 513 0 0) [] 2
@@ -233,11 +237,33 @@ cases =
     ∷ Read (bytesWith (50 ∷ 48 ∷ [])) (box 7 7 7 7 (pos 7 ∷ [])) (record { number = 0; shape = shape 2 1 0 0 }) (negℤ (pos 30) ∷ negℤ (pos 4) ∷ pos 20 ∷ pos 5 ∷ pos 7 ∷ [])
     ∷ isRefused (bytesWith (49 ∷ 48 ∷ 48 ∷ 48 ∷ 48 ∷ 48 ∷ 48 ∷ 48 ∷ [])) 9
     -- ours: a second PLAN line, and one that is not first, give 9; too few layers, too many rectangles and RECT before LAYER give 10
-    ∷ isRefused (bytes "PLAN\t2\nPLAN\t2\nLAYER\t0\nLAYER\t0\n") 9
-    ∷ isRefused (bytes "LAYER\t0\nPLAN\t1\n") 9
-    ∷ isRefused (bytes "PLAN\t2\nLAYER\t0\n") 10
-    ∷ isRefused (bytes "PLAN\t2\nLAYER\t0\nRECT\t0\t0\t1\t1\nLAYER\t0\n") 10
-    ∷ isRefused (bytes "PLAN\t2\nRECT\t0\t0\t1\t1\nLAYER\t0\nLAYER\t0\n") 10
+    ∷ isRefused (bytes "PLAN\t2\nPLAN\t2\nLAYER\t0\t0\nLAYER\t0\t0\n") 9
+    ∷ isRefused (bytes "LAYER\t0\t0\nPLAN\t1\n") 9
+    ∷ isRefused (bytes "PLAN\t2\nLAYER\t0\t0\n") 10
+    ∷ isRefused (bytes "PLAN\t2\nLAYER\t0\t0\nRECT\t0\t0\t1\t1\nLAYER\t0\t0\n") 10
+    ∷ isRefused (bytes "PLAN\t2\nRECT\t0\t0\t1\t1\nLAYER\t0\t0\nLAYER\t0\t0\n") 10
+    -- ours, of margins: 50,000 is one, 50,001 and one past k give 17, after 2 and before 3; in a text 50,001 gives 10, and so does a negative one
+    ∷ Caused (margined 50000 0 0 2 1 1 0) twoAlike 0
+    ∷ Caused (margined 50001 0 0 2 1 1 0) [] 17
+    ∷ Caused (margined 0 0 1 2 1 1 0) twoAlike 17
+    ∷ Caused (margined 50001 0 0 2 513 0 0) [] 2
+    ∷ Read (bytes "PLAN\t2\nLAYER\t0\t50000\nLAYER\t0\t7\n") (box 7 7 7 7 []) (record { number = 0; shape = margined 50000 7 0 2 0 0 0 }) (box 7 7 7 7 [])
+    ∷ isRefused (bytes "PLAN\t2\nLAYER\t0\t50001\nLAYER\t0\t0\n") 10
+    ∷ isRefused (bytes "PLAN\t2\nLAYER\t0\t-1\nLAYER\t0\t0\n") 10
+    -- a margin is a number like the others: up to seven digits, none of them a leading 0
+    ∷ isRefused (bytes "PLAN\t2\nLAYER\t0\t9999999\nLAYER\t0\t0\n") 10
+    ∷ isRefused (bytes "PLAN\t2\nLAYER\t0\t10000000\nLAYER\t0\t0\n") 9
+    ∷ isRefused (bytes "PLAN\t2\nLAYER\t0\t07\nLAYER\t0\t0\n") 9
+    ∷ isRefused (bytes "PLAN\t2\nLAYER\t0\t-0\nLAYER\t0\t0\n") 9
+    -- "the text take it ungrown": rectangles are read as they stand, whatever the margins of their layers, which go to the layers in their order
+    ∷ Read (bytes "PLAN\t3\nLAYER\t1\t50000\nRECT\t1000000\t2\t1000000\t3\nLAYER\t0\t7\nLAYER\t1\t40\nRECT\t4\t5\t6\t7\n") (alike 2)
+    (record { number = 0; shape = margined 50000 7 40 3 1 0 1 }) (box 1000000 2 1000000 3 (box 4 5 6 7 []))
+    -- 02: "old LAYER lines are no longer well formed"
+    ∷ isRefused (bytes "PLAN\t2\nLAYER\t0\nLAYER\t0\n") 9
+    -- a margin of 1 closes a gap of 1: the two touch
+    ∷ Listed (margined 1 0 0 2 1 1 0) (box 0 0 9 5 (box 10 0 20 5 [])) (row 2 (0 ∷ 0 ∷ []) 0 ∷ []) 2
+    -- one of 10 makes the second rectangle's left a tie with the first's, so the guard is in layer 1; the area is of the grown ones
+    ∷ Listed (margined 0 10 0 2 1 1 0) (box 0 0 20 5 (box 10 0 12 5 [])) (row 1 (0 ∷ 0 ∷ []) 100 ∷ []) 2
     -- ours: several rows of one guard in three layers, in their order
     ∷ Listed (shape 3 2 1 2) three (row 2 (0 ∷ 0 ∷ 0 ∷ []) 50 ∷ row 2 (0 ∷ 0 ∷ 1 ∷ []) 30 ∷ row 2 (1 ∷ 0 ∷ 0 ∷ []) 45 ∷ row 2 (1 ∷ 0 ∷ 1 ∷ []) 27 ∷ []) 16
     ∷ []

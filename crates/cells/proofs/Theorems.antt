@@ -13,7 +13,7 @@ use Rattle.lists.proofs.Padding.{padded-long}
 use Rattle.geometry.specs.declared.Rect.{Rect}
 use Rattle.plan.specs.declared.Shape.{Shape}
 use Rattle.plan.specs.Causes.{onCause}
-use Rattle.plan.specs.Plan.{sizesOf, Typed}
+use Rattle.plan.specs.Plan.{sizesOf, Typed, grown}
 use Rattle.sweep.specs.Sweep.{sweepOrder, orderCause}
 use Rattle.search.specs.declared.Stop.{Stop}
 use Rattle.search.specs.declared.Stop.the-variants.{Ended, Full, Spent, Refused}
@@ -32,7 +32,7 @@ use Rattle.paging.proofs.Theorems.{demand3}
 use Rattle.survey.specs.Theorems.{SoundStops}
 use Rattle.survey.proofs.Theorems.{surveys}
 use Rattle.cells.specs.Cells.{cursorCells, noCursor, cursorIn, stopCode, cursorAfter, stripIn}
-use Rattle.cells.specs.Theorems.{CellChain, end, refused, accepted, CursorsInCells, StripsInCells}
+use Rattle.cells.specs.Theorems.{CellChain, end, refused, accepted, CursorsInCells, ShapesInCells, StripsInCells}
 use Rattle.cells.proofs.Cells.{in-none}
 
 -- five cells, read one by one
@@ -103,8 +103,8 @@ module _ (s : Shape) (cells : List ℤ) where
           subst (λ (c : Cursor). let p = pageCall (x .shape) (x .cells) (x .order) c (x .budget) (x .table) in cursorIn (cursorAfter due p) ≡ p .cursor) (sym k)
           (next (x .shape) (x .cells) (x .order) due (x .budget) (x .table))
 
-  cell-paging : (xs : List Call) → Typed s → CellChain s cells (cursorCells (freshCall s cells (sweepOrder cells) .cursor)) xs → PagingHolds (overlay s cells) (map served xs)
-  cell-paging xs typed h = demand3 .paging s cells xs typed (subst (λ (c : Cursor). Chain s cells c xs) (first s cells (sweepOrder cells)) (chain h))
+  cell-paging : (xs : List Call) → Typed s → CellChain s cells (cursorCells (freshCall s cells (sweepOrder (grown s cells)) .cursor)) xs → PagingHolds (overlay s cells) (map served xs)
+  cell-paging xs typed h = demand3 .paging s cells xs typed (subst (λ (c : Cursor). Chain s cells c xs) (first s cells (sweepOrder (grown s cells))) (chain h))
 
 -- ---- codes
 stops : (stop : Stop) → ((stopCode stop ≡ 1) ↔ (stop ≡ Ended)) × ((stopCode stop ≡ 2) ↔ (stop ≡ Full)) × ((stopCode stop ≡ 3) ↔ (stop ≡ Spent))
@@ -133,3 +133,6 @@ strips-in-cells = record {
   across = λ kind lower upper upward corners room h. surveys .causes (stripIn kind lower upper) upward corners room .twenty-one .1 (λ s. no-stops kind lower upper h (s .0));
   upward = λ kind lower upper across corners room h. surveys .causes across (stripIn kind lower upper) corners room .twenty-one .1 (λ s. no-stops kind lower upper h (s .1));
 }
+
+pub shapes-in-cells : ShapesInCells
+shapes-in-cells = record { k = λ k sizes margins. refl; sizes = λ k sizes margins. refl; margins = λ k sizes margins. refl }

@@ -20,9 +20,9 @@ use Rattle.search.specs.declared.Stop.{Stop}
 use Rattle.search.specs.declared.Stop.the-variants.{Ended, Full, Spent, Refused}
 use Rattle.paging.specs.Calls.{stopNumber, RunValues}
 
--- the plan's shape of k and six sizes
-abbrev pub shapeOf : ℕ → List ℕ → Shape
-shapeOf k sizes = record { k = k; sizes = sizes }
+-- the plan's shape of k, six sizes and six margins
+abbrev pub shapeOf : ℕ → List ℕ → List ℕ → Shape
+shapeOf k sizes margins = record { k = k; sizes = sizes; margins = margins }
 
 -- ---- cursors: whether the walk has ended (0 or 1), the guard's layer and place, how many slots are filled, the five chosen places, the place to try
 abbrev pub cursorCells : Cursor → List ℕ

@@ -7,7 +7,7 @@ use lib.IntN.{ℤ}
 use lib.ListN.{getD}
 use lib.Ieee.{Float}
 use Rattle.plan.specs.declared.Shape.{Shape}
-use Rattle.plan.specs.Plan.{Typed}
+use Rattle.plan.specs.Plan.{Typed, grown}
 use Rattle.sweep.specs.Sweep.{sweepOrder, orderCause}
 use Rattle.search.specs.declared.Stop.{Stop}
 use Rattle.search.specs.declared.Stop.the-variants.{Ended, Full, Spent}
@@ -17,7 +17,7 @@ use Rattle.paging.specs.Theorems.{Call, served, PagingHolds}
 use Rattle.survey.specs.declared.Strip.{Strip}
 use Rattle.survey.specs.declared.Strip.the-variants.{Free, From, To, Between}
 use Rattle.survey.specs.CoverCall.{coverCause}
-use Rattle.cells.specs.Cells.{cursorCells, cursorIn, stopCode, cursorAfter, stripIn, acrossIn, upwardIn}
+use Rattle.cells.specs.Cells.{shapeOf, cursorCells, cursorIn, stopCode, cursorAfter, stripIn, acrossIn, upwardIn}
 
 -- a list of exported page calls, by the calls that they hand on: an accepted one brings, in its cursor's cells, what the accepted one before it left
 -- there or, if there is none, what the fresh call did; `due` is these cells. A refused call may bring anything
@@ -28,11 +28,17 @@ pub data CellChain (s : Shape) (cells : List ℤ) : List ℕ → List Call → T
 
 pub record CursorsInCells : Type 0 where
   -- what demand 3 says of lists of calls, of every list of exported ones
-  pub paging : (s : Shape) (cells : List ℤ) (xs : List Call) → Typed s → CellChain s cells (cursorCells (freshCall s cells (sweepOrder cells) .cursor)) xs → PagingHolds (overlay s cells) (map served xs)
+  pub paging : (s : Shape) (cells : List ℤ) (xs : List Call) → Typed s → CellChain s cells (cursorCells (freshCall s cells (sweepOrder (grown s cells)) .cursor)) xs → PagingHolds (overlay s cells) (map served xs)
   -- why a page stopped, as its first cell says it
   pub stops : (stop : Stop) → ((stopCode stop ≡ 1) ↔ (stop ≡ Ended)) × ((stopCode stop ≡ 2) ↔ (stop ≡ Full)) × ((stopCode stop ≡ 3) ↔ (stop ≡ Spent))
   -- cells with a flag above 1 are refused by 6 where no earlier cause applies
   pub refused : (s : Shape) (cells : List ℤ) (order given : List ℕ) → 1 < getD given 0 0 → orderCause s cells order ≡ 0 → pageCause s cells order (cursorIn given) ≡ 6
+
+-- a plan's shape is handed over as k, six sizes and six margins, in this order
+pub record ShapesInCells : Type 0 where
+  pub k : (k : ℕ) (sizes margins : List ℕ) → shapeOf k sizes margins .k ≡ k
+  pub sizes : (k : ℕ) (sizes margins : List ℕ) → shapeOf k sizes margins .sizes ≡ sizes
+  pub margins : (k : ℕ) (sizes margins : List ℕ) → shapeOf k sizes margins .margins ≡ margins
 
 pub record StripsInCells : Type 0 where
   -- the kinds, and which stop stands where

@@ -8,7 +8,7 @@ use lib.Dec.{leb}
 use borrow.Author.Tests.{le-leb, lt-leb, leb-true}
 use Rattle.plan.specs.declared.Shape.{Shape}
 use Rattle.plan.specs.Causes.{unless, _orElse_}
-use Rattle.plan.specs.Plan.{Layer, layers, planCause, Typed, Sound}
+use Rattle.plan.specs.Plan.{Layer, layersOf, sizesOf, layers, planCause, Typed, Sound}
 use Rattle.plan.proofs.Plan.{or-else-zero, unless-zero}
 use Rattle.rows.specs.declared.Ground.{Ground}
 use Rattle.rows.specs.declared.Sharing.the-variants.{Nothing, Shared}
@@ -17,7 +17,7 @@ use Rattle.rows.proofs.Answers.{ground-none, ground-some}
 use Rattle.crossings.specs.declared.ClassAnswer.{ClassAnswer}
 use Rattle.crossings.specs.declared.ClassAnswer.the-variants.{Refused, NoRow, Class}
 use Rattle.crossings.specs.Crossings.{classIn}
-use Rattle.crossings.specs.ClassCall.{segmented, crossingCause, classCall}
+use Rattle.crossings.specs.ClassCall.{segmented, unwidened, crossingCause, classCall}
 use Rattle.crossings.specs.Ends.{classTold}
 
 -- ---- the cause
@@ -32,9 +32,14 @@ module _ (s : Shape) (cells : List ℤ) where
     unfolding crossingCause
     cause-layers h = rw (sound, lt-leb 3 (s .k) h)
 
-    pub cause-segments : 3 ≤ s .k → (t : Bool) → t ≡ segmented (layers s cells) → unless t 16 ≡ crossingCause s cells
-    unfolding crossingCause
-    cause-segments h t e = rw (sound, le-leb 3 (s .k) h, e)
+    module _ (h : 3 ≤ s .k) where
+      pub cause-margins : false ≡ unwidened (s .margins) (s .k) → 16 ≡ crossingCause s cells
+      unfolding crossingCause
+      cause-margins e = rw (sound, le-leb 3 (s .k) h, ← e)
+
+      pub cause-segments : true ≡ unwidened (s .margins) (s .k) → (t : Bool) → t ≡ segmented (layersOf (sizesOf s) cells) → unless t 16 ≡ crossingCause s cells
+      unfolding crossingCause
+      cause-segments f t e = rw (sound, le-leb 3 (s .k) h, ← f, e)
 
 -- what the checks let through
 pub cause-sound : (s : Shape) (cells : List ℤ) → Typed s → crossingCause s cells ≡ 0 → Sound s cells

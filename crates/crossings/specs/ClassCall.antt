@@ -4,12 +4,12 @@ use mathlib.Core.Bool.{Bool, true, false, cond, _&&_}
 use Prim.Native.Nat.{ℕ, zero, suc, _-_}
 use lib.IntN.{ℤ}
 use lib.Dec.{eqb, leb}
-use lib.ListN.{length}
+use lib.ListN.{length, getD}
 use Rattle.lists.specs.Lists.{each, keep}
 use Rattle.geometry.specs.declared.Rect.{Rect}
 use Rattle.plan.specs.declared.Shape.{Shape}
 use Rattle.plan.specs.Causes.{unless, _orElse_, onCause}
-use Rattle.plan.specs.Plan.{Layer, layers, planCause}
+use Rattle.plan.specs.Plan.{Layer, layersOf, sizesOf, layers, planCause}
 use Rattle.plan.specs.Spots.{layerAt}
 use Rattle.join.specs.Join.{sameZ}
 use Rattle.rows.specs.RowCall.{isRow}
@@ -35,9 +35,15 @@ layerLies level ls i = allLie level (layerAt ls i .size) (layerAt ls i .rect)
 unfoldable pub segmented : List Layer → Bool
 segmented ls = layerLies true ls (length ls - 2) && layerLies false ls (length ls - 1)
 
--- 02: "fewer than three layers, 15; bottom and top differing in layer k − 1, or left and right in layer k, 16; both after 4, in that order"
+-- neither of these layers has a margin. 02, Q-4: "a margin above 0 on a segment layer is 16"
+unfoldable pub unwidened : (margins : List ℕ) (k : ℕ) → Bool
+unwidened ms k = eqb (getD ms (k - 2) 0) 0 && eqb (getD ms (k - 1) 0) 0
+
+-- 02: "fewer than three layers, 15; bottom and top differing in layer k − 1, or left and right in layer k, 16; both after 4, in that order". The segments
+-- are those drawn, and with margin 0 the grown ones too
 unfoldable pub crossingCause : Shape → List ℤ → ℕ
-crossingCause s cells = planCause s cells orElse unless (leb 3 (s .k)) 15 orElse unless (segmented (layers s cells)) 16
+crossingCause s cells =
+    planCause s cells orElse unless (leb 3 (s .k)) 15 orElse unless (unwidened (s .margins) (s .k) && segmented (layersOf (sizesOf s) cells)) 16
 
 -- ---- the class call
 unfoldable pub classCall : Shape → List ℤ → List ℕ → ClassAnswer

@@ -9,7 +9,7 @@ use lib.ListN.{length, getD}
 use Rattle.geometry.specs.declared.Rect.{Rect}
 use Rattle.geometry.specs.Rectangles.{In}
 use Rattle.plan.specs.declared.Shape.{Shape}
-use Rattle.plan.specs.Plan.{layers, sizesOf, planCause, Typed}
+use Rattle.plan.specs.Plan.{layersOf, sizesOf, grown, layers, planCause, Typed}
 use Rattle.plan.specs.Spots.{layerAt}
 use Rattle.join.specs.Join.{rects, commonOf}
 use Rattle.join.specs.Table.{tableOf}
@@ -48,24 +48,26 @@ pub record IsClass (rs : List Rect) (class : ℕ) : Type 0 where
 -- ---- the checks
 -- "bottom and top" do not differ "in layer k − 1", nor "left and right in layer k"
 pub record Segments (s : Shape) (cells : List ℤ) : Type 0 where
-  pub horizontal : (p : ℕ) → let l = layerAt (layers s cells) (s .k - 2) in p < l .size → l .rect p .bottom ≡ l .rect p .top
-  pub vertical : (p : ℕ) → let l = layerAt (layers s cells) (s .k - 1) in p < l .size → l .rect p .left ≡ l .rect p .right
+  pub horizontal : (p : ℕ) → let l = layerAt (layersOf (sizesOf s) cells) (s .k - 2) in p < l .size → l .rect p .bottom ≡ l .rect p .top
+  pub vertical : (p : ℕ) → let l = layerAt (layersOf (sizesOf s) cells) (s .k - 1) in p < l .size → l .rect p .left ≡ l .rect p .right
+  -- 02, Q-4: "a margin above 0 on a segment layer is 16", also where it is empty
+  pub level : getD (s .margins) (s .k - 2) 0 ≡ 0
+  pub upright : getD (s .margins) (s .k - 1) 0 ≡ 0
 
--- each cause applies in exactly the stated case, and where no earlier one does (1 to 4: `Plans` of the crate plan)
+-- each cause applies in exactly the stated case, and where no earlier one does (1 to 4 and 17: `Plans` of the crate plan)
 pub record CrossingCauses (s : Shape) (cells : List ℤ) : Type 0 where
   pub none : (crossingCause s cells ≡ 0) ↔ ((planCause s cells ≡ 0) × (3 ≤ s .k) × Segments s cells)
-  pub earlier : (n : ℕ) → 0 < n → n < 15 → (crossingCause s cells ≡ n) ↔ (planCause s cells ≡ n)
+  pub others : (n : ℕ) → 0 < n → (n ≡ 15 → ⊥) → (n ≡ 16 → ⊥) → (crossingCause s cells ≡ n) ↔ (planCause s cells ≡ n)
   pub fifteen : (crossingCause s cells ≡ 15) ↔ ((planCause s cells ≡ 0) × (s .k < 3))
   pub sixteen : (crossingCause s cells ≡ 16) ↔ ((planCause s cells ≡ 0) × (3 ≤ s .k) × (Segments s cells → ⊥))
-  pub most : crossingCause s cells ≤ 16
 
 -- ---- the class call
 pub record ClassesHold (s : Shape) (cells : List ℤ) : Type 0 where
   -- of a row of the table its class, which is one number
-  pub row : (row : List ℕ) → List·Memᴰ row (tableOf (sizesOf s) cells)
+  pub row : (row : List ℕ) → List·Memᴰ row (tableOf (sizesOf s) (grown s cells))
       → (classCall s cells row ≡ Class (classIn (layers s cells) row)) × IsClass (rects (layers s cells) row) (classIn (layers s cells) row) × (length (rects (layers s cells) row) ≡ s .k)
   -- "17 where they name no row"
-  pub others : (row : List ℕ) → (List·Memᴰ row (tableOf (sizesOf s) cells) → ⊥) → classCall s cells row ≡ NoRow
+  pub others : (row : List ℕ) → (List·Memᴰ row (tableOf (sizesOf s) (grown s cells)) → ⊥) → classCall s cells row ≡ NoRow
 
 pub record Crossings : Type 0 where
   -- a rectangle covers exactly the points that lie in it

@@ -1,6 +1,8 @@
 // Crossings: the class of a row whose last two rectangles are segments (02: pipes against ducts), and the checks 15 and 16.
 use geometry::Rect;
+use plan::MOST_CELLS;
 use plan::Shape;
+use plan::grow_plan;
 use plan::plan_cause;
 use plan::rect_at;
 use rows::Sharing;
@@ -16,7 +18,7 @@ ghost use Rattle.plan.specs.Frames.{Framed};
 ghost use Rattle.join.specs.Join.{rects, commonOf, sameZ};
 ghost use Rattle.rows.specs.RowCall.{isRow};
 ghost use Rattle.crossings.specs.Crossings.{covers, classIn};
-ghost use Rattle.crossings.specs.ClassCall.{lies, allLie, segmented, crossingCause, classCall, classValues};
+ghost use Rattle.crossings.specs.ClassCall.{lies, allLie, segmented, unwidened, crossingCause, classCall, classValues};
 ghost use Rattle.crossings.specs.Ends.{endIn, classTold};
 
 // What the class call answers.
@@ -35,7 +37,10 @@ pub fn class_of(shape: Shape, cells: &[i32], places: &[u32]) -> ClassAnswer
     if cause != 0 {
         return ClassAnswer::Refused(cause);
     }
-    class_told(&shape.sizes, shape.k as usize, cells, places)
+    let mut run = [0i32; MOST_CELLS];
+    grow_plan(shape, cells, &mut run);
+    let n = cells.len();
+    class_told(&shape.sizes, shape.k as usize, &run[..n], places)
 }
 
 // The class of the row that the cells name among the first k layers of a sound plan.
@@ -49,7 +54,7 @@ fn class_told(sizes: &[u32], k: usize, cells: &[i32], places: &[u32]) -> ClassAn
     }
 }
 
-// The first of the causes 1 to 4, 15 and 16 that applies, or 0.
+// The first of the causes 1 to 4, 17, 15 and 16 that applies, or 0.
 pub fn crossing_cause(shape: Shape, cells: &[i32]) -> u32
     ensures { λ r. ⌜ r ≡ crossingCause shape (now (cells .entry)) ⌝ }
 {
@@ -60,11 +65,24 @@ pub fn crossing_cause(shape: Shape, cells: &[i32]) -> u32
     if shape.k < 3 {
         return 15;
     }
+    if !is_unwidened(&shape.margins, shape.k as usize) {
+        return 16;
+    }
     if is_segmented(&shape.sizes, shape.k as usize, cells) {
         0
     } else {
         16
     }
+}
+
+// Layers k - 1 and k have no margin.
+fn is_unwidened(margins: &[u32], k: usize) -> bool
+    requires { ⌜ (3 ≤ k) × (k ≤ length (now margins)) ⌝ }
+    ensures { λ r. ⌜ r ≡ unwidened (now (margins .entry)) k ⌝ }
+{
+    let h = margins[k - 2];
+    let v = margins[k - 1];
+    (h == 0) & (v == 0)
 }
 
 // Layer k - 1 holds horizontal segments and layer k vertical ones.

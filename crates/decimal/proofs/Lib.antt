@@ -5,5 +5,4 @@ pub mod Numerals
 pub mod Reading
 pub mod Signs
 pub mod Places
-pub mod Stores
 pub mod Theorems

@@ -2,5 +2,4 @@ pub mod Numerals
 pub mod Bytes
 pub mod Reading
 pub mod Places
-pub mod Stores
 pub mod Theorems

@@ -9,7 +9,7 @@ ghost use lib.IntN.{natAbs};
 ghost use Rattle.decimal.specs.Numerals.{size, decimal, numeral, mostDigits, short};
 ghost use Rattle.decimal.specs.Bytes.{kindOf, isDigit};
 ghost use Rattle.decimal.specs.Places.{digitNext, minusNext, MoreFrom, sign, zeroAt, digitsFrom, numberFrom};
-ghost use Rattle.decimal.specs.Stores.{Put};
+ghost use Rattle.lists.specs.Stores.{Put};
 
 // The most digits of a number behind its first: `mostDigits - 1`.
 const MORE: usize = 6;

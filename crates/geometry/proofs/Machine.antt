@@ -1,17 +1,18 @@
 -- What the machine reads back of signed numbers and rectangles, and the tests as the code makes them.
-use mathlib.Core.Path.{_≡_, sym, ap, ap₂, _∙_}
+use mathlib.Core.Path.{_≡_, sym, ap, ap₂, _∙_, subst}
 use mathlib.Core.Bool.{Bool, true, false}
-use Prim.Native.Nat.{ℕ, _*_, _<_}
+use Prim.Native.Nat.{ℕ, _*_, _≤_, _<_}
 use native.Mathlib.Nat.{mul-le-mul, lt-of-le-of-lt, le-pred-of-lt}
 use lib.Dec.{T, lit<}
-use lib.IntN.{ℤ, natAbs, _-ℤ_}
+use lib.IntN.{ℤ, pos, negℤ, natAbs, _-ℤ_}
 use lib.Signed.{leZ, ltZ, nonNeg, _≤ℤ_}
 use mir.Syntax.{Width, w32, w64}
 use mir.Val.{SFits, Fits, toZ, ofZ}
-use mir.Facts.{toZ-ofZ}
+use mir.Facts.{toZ-ofZ, toZ-pos}
+use native.Mathlib.Omega.{arith}
 use Rattle.geometry.specs.declared.Rect.{Rect}
 use Rattle.geometry.specs.declared.Meeting.the-variants.{Apart, Common}
-use Rattle.geometry.specs.Rectangles.{common, nonempty, meets, meeting, reach, between}
+use Rattle.geometry.specs.Rectangles.{common, nonempty, meets, meeting, reach, extent, between}
 use Rattle.geometry.proofs.Integers.{zarith, sub-law, one-side, size-law, nonNeg-law, →sfits, sfits→}
 
 -- ---- what the machine reads back, and a record by its fields
@@ -74,3 +75,22 @@ span-either a b = omega (zarith, sub-law b a, sub-law a b, one-side (b -ℤ a), 
 
 pub square-fits : {m n : ℕ} → m < 4294967296 → n < 4294967296 → Fits w64 (m * n)
 square-fits {m} {n} p q = record { fits = lt-of-le-of-lt (mul-le-mul (le-pred-of-lt p) (le-pred-of-lt q)) (lit< tt) }
+
+-- a coordinate in the extent fits
+pub extent-fits : {z : ℤ} → (negℤ extent ≤ℤ z) × (z ≤ℤ extent) → SFits w32 z
+extent-fits {z} h = →sfits w32 z (omega (zarith, one-side z))
+
+-- a margin fits as a signed number
+pub margin-fits : {m : ℕ} → m ≤ 50000 → SFits w32 (pos m)
+margin-fits {m} h = →sfits w32 (pos m) (omega zarith)
+
+-- what the machine makes of a coordinate and a margin
+module _ (f : ℤ → ℤ → ℤ) {z : ℤ} {m : ℕ} (fits : SFits w32 z) (small : m ≤ 50000) (ok : SFits w32 (f z (pos m))) where
+  moves : f (toZ w32 (ofZ w32 z)) (toZ w32 m) ≡ f z (pos m)
+  moves = ap₂ f (toZ-ofZ fits) (toZ-pos w32 (omega arith))
+
+  pub moved-fits : SFits w32 (f (toZ w32 (ofZ w32 z)) (toZ w32 m))
+  moved-fits = subst (SFits w32) (sym moves) ok
+
+  pub moved : toZ w32 (ofZ w32 (f (toZ w32 (ofZ w32 z)) (toZ w32 m))) ≡ f z (pos m)
+  moved = toZ-ofZ moved-fits ∙ moves

@@ -10,7 +10,7 @@ use Rattle.lists.proofs.Tests.{both, and-true}
 use Rattle.geometry.specs.declared.Rect.{Rect}
 use Rattle.geometry.specs.declared.Meeting.{Meeting}
 use Rattle.geometry.specs.declared.Meeting.the-variants.{Apart, Common}
-use Rattle.geometry.specs.Rectangles.{In, maxZ, minZ, common, nonempty, meets, meeting, reach, extent, between, held, inRange, inExtent, areaOf, mostArea}
+use Rattle.geometry.specs.Rectangles.{In, maxZ, minZ, common, nonempty, meets, meeting, reach, extent, between, held, inRange, inExtent, areaOf, mostArea, grownBy}
 use Rattle.geometry.specs.Theorems.{Ranged}
 use Rattle.geometry.proofs.Integers.{up, dn, zarith, neg-law, one-side, size-law, add-law, sub-law}
 
@@ -209,3 +209,42 @@ range-area r e = area-held 1000000 r e
 
 pub extent-area : (r : Rect) → inExtent r ≡ true → areaOf r ≤ mostArea
 extent-area r e = area-held 1050000 r e
+
+-- ---- margins
+pub grown-sides : (m : ℕ) (r : Rect) → let g = grownBy m r in (g .left +ℤ pos m ≡ r .left) × (g .bottom +ℤ pos m ≡ r .bottom) × (g .right ≡ r .right +ℤ pos m) × (g .top ≡ r .top +ℤ pos m)
+unfolding grownBy
+grown-sides m r = (back (r .left), back (r .bottom), refl, refl)
+  where
+    back : (z : ℤ) → (z -ℤ pos m) +ℤ pos m ≡ z
+    back z = omega (zarith, sub-law z (pos m), add-law (z -ℤ pos m) (pos m))
+
+pub grown-none : (r : Rect) → grownBy 0 r ≡ r
+unfolding grownBy
+grown-none r = rw (down (r .left), down (r .bottom), on (r .right), on (r .top))
+  where
+    down : (z : ℤ) → z -ℤ pos 0 ≡ z
+    down z = omega (zarith, sub-law z (pos 0))
+
+    on : (z : ℤ) → z +ℤ pos 0 ≡ z
+    on z = omega (zarith, add-law z (pos 0))
+
+pub grown-wider : (m n : ℕ) (r : Rect) (x y : ℤ) → m ≤ n → In x y (grownBy m r) → In x y (grownBy n r)
+unfolding grownBy
+grown-wider m n r x y h i =
+    omega (zarith, sub-law (r .left) (pos m), sub-law (r .bottom) (pos m), add-law (r .right) (pos m), add-law (r .top) (pos m), sub-law (r .left) (pos n), sub-law (r .bottom) (pos n), add-law (r .right) (pos n), add-law (r .top) (pos n))
+
+-- a side moved out of the range by a margin
+pub between-out : (z : ℤ) (m : ℕ) → Between reach z → m ≤ 50000 → Between extent (z +ℤ pos m)
+between-out z m p h = omega (zarith, add-law z (pos m))
+
+pub between-in : (z : ℤ) (m : ℕ) → Between reach z → m ≤ 50000 → Between extent (z -ℤ pos m)
+between-in z m p h = omega (zarith, sub-law z (pos m))
+
+pub grown-extent : (m : ℕ) (r : Rect) → inRange r ≡ true → m ≤ 50000 → inExtent (grownBy m r) ≡ true
+unfolding grownBy
+grown-extent m r e h =
+    let k = held-is reach r e in
+    is-held extent (grownBy m r) (record { left = between-in _ m (k .left) h; bottom = between-in _ m (k .bottom) h; right = between-out _ m (k .right) h; top = between-out _ m (k .top) h; across = apart _ _ (k .across); upward = apart _ _ (k .upward) })
+  where
+    apart : (a b : ℤ) → a ≤ℤ b → (a -ℤ pos m) ≤ℤ (b +ℤ pos m)
+    apart a b l = omega (zarith, sub-law a (pos m), add-law b (pos m))

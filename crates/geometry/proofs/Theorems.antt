@@ -1,6 +1,6 @@
 -- The promises on common ground hold.
-use Rattle.geometry.specs.Theorems.{CommonGround}
-use Rattle.geometry.proofs.Rectangles.{common-comm, common-assoc, common-same, in-both, in-common, meets-point, point-meets, ranged, in-range, area-exact, range-area}
+use Rattle.geometry.specs.Theorems.{CommonGround, Growing}
+use Rattle.geometry.proofs.Rectangles.{common-comm, common-assoc, common-same, in-both, in-common, meets-point, point-meets, ranged, in-range, area-exact, range-area, extent-area, grown-sides, grown-none, grown-wider, grown-extent}
 
 pub common-ground : CommonGround
 common-ground = record {
@@ -13,3 +13,6 @@ common-ground = record {
   exact = area-exact;
   area = range-area;
 }
+
+pub growing : Growing
+growing = record { sides = grown-sides; none = grown-none; wider = grown-wider; extent = grown-extent; area = extent-area }

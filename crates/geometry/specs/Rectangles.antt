@@ -1,7 +1,7 @@
 -- Closed rectangles (01, "The plan" and "The table").
 use mathlib.Core.Bool.{Bool, cond, _&&_}
 use Prim.Native.Nat.{ℕ, _*_}
-use lib.IntN.{ℤ, pos, negℤ, natAbs, _-ℤ_}
+use lib.IntN.{ℤ, pos, negℤ, natAbs, _+ℤ_, _-ℤ_}
 use lib.Signed.{leZ, _≤ℤ_}
 use Rattle.geometry.specs.declared.Rect.{Rect}
 use Rattle.geometry.specs.declared.Meeting.{Meeting}
@@ -43,7 +43,7 @@ meeting a b = cond (meets a b) (Common (common a b)) Apart
 abbrev pub reach : ℤ
 reach = pos 1000000
 
--- the range that the walk itself needs, no narrower than that of a plan's coordinates
+-- the range that the walk itself needs: that of a plan's coordinates, and the largest margin around it
 abbrev pub extent : ℤ
 extent = pos 1050000
 
@@ -62,6 +62,16 @@ inRange r = held reach r
 -- a rectangle that the walk takes
 abbrev pub inExtent : Rect → Bool
 inExtent r = held extent r
+
+-- ---- margins
+-- 02, Q-4: "a margin in millimetres, 0 to 50,000"
+abbrev pub mostMargin : ℕ
+mostMargin = 50000
+
+-- 02, Q-4: "the one grown by its margin on all four sides" (specs/Theorems.antt, `Growing`)
+unfoldable pub grownBy : ℕ → Rect → Rect
+grownBy m r =
+    record { left = r .left -ℤ pos m; bottom = r .bottom -ℤ pos m; right = r .right +ℤ pos m; top = r .top +ℤ pos m }
 
 -- ---- area
 -- 01: "width times its height in square millimetres" (specs/Theorems.antt, `exact`). Of a rectangle with its sides the wrong way round, which

@@ -6,7 +6,7 @@ use Prim.Native.Nat.{ℕ, _*_, _≤_}
 use lib.IntN.{ℤ, pos, negℤ, _+ℤ_}
 use lib.Signed.{_≤ℤ_}
 use Rattle.geometry.specs.declared.Rect.{Rect}
-use Rattle.geometry.specs.Rectangles.{In, common, meets, inRange, areaOf}
+use Rattle.geometry.specs.Rectangles.{In, common, meets, held, inRange, grownBy, areaOf}
 
 -- 01: "Each coordinate is from −1,000,000 to 1,000,000"
 abbrev pub Coordinate : ℤ → Type 0
@@ -36,3 +36,15 @@ pub record CommonGround : Type 0 where
   pub exact : (r : Rect) (width height : ℕ) → r .right ≡ r .left +ℤ pos width → r .top ≡ r .bottom +ℤ pos height → areaOf r ≡ width * height
   -- ... and of a rectangle in range at most 4 × 10^12
   pub area : (r : Rect) → inRange r ≡ true → areaOf r ≤ 4000000000000
+
+-- 02, Q-4: a rectangle "grown by its margin on all four sides"
+pub record Growing : Type 0 where
+  -- each side is moved out by the margin
+  pub sides : (m : ℕ) (r : Rect) → let g = grownBy m r in (g .left +ℤ pos m ≡ r .left) × (g .bottom +ℤ pos m ≡ r .bottom) × (g .right ≡ r .right +ℤ pos m) × (g .top ≡ r .top +ℤ pos m)
+  -- with margin 0 it is the rectangle as it is
+  pub none : (r : Rect) → grownBy 0 r ≡ r
+  -- a larger margin loses no point
+  pub wider : (m n : ℕ) (r : Rect) (x y : ℤ) → m ≤ n → In x y (grownBy m r) → In x y (grownBy n r)
+  -- one in range, grown by at most 50,000, is from −1,050,000 to 1,050,000, and its area "at most 4.41 × 10^12"
+  pub extent : (m : ℕ) (r : Rect) → inRange r ≡ true → m ≤ 50000 → held (pos 1050000) (grownBy m r) ≡ true
+  pub area : (r : Rect) → held (pos 1050000) r ≡ true → areaOf r ≤ 4410000000000

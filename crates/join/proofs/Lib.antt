@@ -1,3 +1,4 @@
 pub mod Join
 pub mod Table
+pub mod Margins
 pub mod Theorems

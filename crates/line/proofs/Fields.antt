@@ -4,7 +4,7 @@ use mathlib.Core.List.{List, [], _∷_, _++_, append-assoc}
 use Prim.Native.Nat.{ℕ}
 use lib.IntN.{ℤ}
 use Rattle.decimal.specs.Numerals.{numeral}
-use Rattle.decimal.proofs.Stores.{Joined}
+use Rattle.lists.proofs.Stores.{Joined}
 use Rattle.line.specs.Lines.{putField}
 
 -- a word, and the bytes behind it

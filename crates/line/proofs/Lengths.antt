@@ -20,9 +20,9 @@ pub plan-length : (n : ℕ) → length (spellTo (Plan (pos n)) []) ≡ 6 + size 
 unfolding numeral
 plan-length n = simp length-append (omega (arith, length-decimal n))
 
-pub layer-length : (n : ℕ) → length (spellTo (Layer (pos n)) []) ≡ 7 + size 19 n
+pub layer-length : (n m : ℕ) → length (spellTo (Layer (pos n) (pos m)) []) ≡ 8 + size 19 n + size 19 m
 unfolding numeral
-layer-length n = simp length-append (omega (arith, length-decimal n))
+layer-length n m = simp length-append (omega (arith, length-decimal n, length-decimal m))
 
 pub spell-length : (l : Line) (r : List ℕ) → length (spellTo l r) ≡ length (spellTo l []) + length r
 spell-length l r = ap length (spell-front l r) ∙ length-append (spellTo l []) r
@@ -31,8 +31,8 @@ spell-length l r = ap length (spell-front l r) ∙ length-append (spellTo l []) 
 pub plan-most : (n : ℕ) → length (spellTo (Plan (pos n)) []) ≤ 26
 plan-most n = omega (arith, plan-length n, size-most 19 n)
 
-pub layer-most : (n : ℕ) → length (spellTo (Layer (pos n)) []) ≤ 27
-layer-most n = omega (arith, layer-length n, size-most 19 n)
+pub layer-most : (n m : ℕ) → length (spellTo (Layer (pos n) (pos m)) []) ≤ 48
+layer-most n m = omega (arith, layer-length n m, size-most 19 n, size-most 19 m)
 
 pub rect-most : (r : Rect) → length (spellTo (Rectangle r) []) ≤ 93
 rect-most r = omega (arith, rect-length r, numeral-few (r .left), numeral-few (r .bottom), numeral-few (r .right), numeral-few (r .top))

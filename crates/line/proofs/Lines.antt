@@ -19,7 +19,7 @@ use Rattle.decimal.proofs.Reading.{Stops, number-reads, number-spelled}
 use Rattle.line.specs.declared.Line.{Line}
 use Rattle.line.specs.declared.Line.the-variants.{Plan, Layer, Rectangle}
 use Rattle.line.specs.Lines.{PLAN, LAYER, RECT, putField, spellTo, shortRect, shortLine}
-use Rattle.line.specs.Parsing.{next, either, behind, field, fieldLine, rectLine, line}
+use Rattle.line.specs.Parsing.{next, either, behind, field, planLine, layerLine, rectLine, line}
 
 -- ---- what a chain of readings was made of
 
@@ -81,7 +81,9 @@ shorts b h =
 pub line-reads : (l : Line) (r : List ℕ) → shortLine l ≡ true → line (spellTo l r) ≡ some (l, r)
 unfolding line
 line-reads (Plan k) r h = rw (end-reads k r h)
-line-reads (Layer n) r h = rw (end-reads n r h)
+line-reads (Layer n m) r h =
+    let s = both (short n) (short m) h in
+    rw (tab-reads n (putField m 10 r) (s .0), end-reads m r (s .1))
 line-reads (Rectangle b) r h =
     let s = shorts b h in
     rw (
@@ -104,15 +106,26 @@ line-pair : {t : List ℕ} {p : Line × List ℕ} (l : Line) (r : List ℕ) → 
 line-pair {t} {p} l r e h =
     subst (λ (q : Line × List ℕ). Lined t (q .0) (q .1)) (Option·some-injective (l, r) p e) h
 
--- a word, and a number that ends the line
-number-spelled-line : (w : List ℕ) (f : ℤ → Line) (t : List ℕ) (p : Line × List ℕ) → ((z : ℤ) (r : List ℕ) → short z ≡ true → Lined (w ++ putField z 10 r) (f z) r)
-    → next (behind w t) (fieldLine f) ≡ some p → Lined t (p .0) (p .1)
-number-spelled-line w f t p spells e =
-    let b = next-some (behind w t) _ p e in
-    let k = next-some (field 10 (b .0)) _ p (b .2) in
-    let s = field-spelled 10 (b .0) (k .0) (k .1) in
-    let x : t ≡ w ++ putField (k .0 .0) 10 (k .0 .1) = behind-spelled w t (b .0) (b .1) ∙ ap (λ (l : List ℕ). w ++ l) (s .text) in
-    line-pair (f (k .0 .0)) (k .0 .1) (k .2) (subst (λ (l : List ℕ). Lined l (f (k .0 .0)) (k .0 .1)) (sym x) (spells (k .0 .0) (k .0 .1) (s .few)))
+plan-spelled : (t : List ℕ) (p : Line × List ℕ) → next (behind PLAN t) planLine ≡ some p → Lined t (p .0) (p .1)
+plan-spelled t p e =
+    let w = next-some (behind PLAN t) _ p e in
+    let k = next-some (field 10 (w .0)) _ p (w .2) in
+    let sk = field-spelled 10 (w .0) (k .0) (k .1) in
+    line-pair (Plan (k .0 .0)) (k .0 .1) (k .2)
+    (record { text = behind-spelled PLAN t (w .0) (w .1) ∙ ap (λ (l : List ℕ). PLAN ++ l) (sk .text); few = sk .few })
+
+layer-spelled : (t : List ℕ) (p : Line × List ℕ) → next (behind LAYER t) layerLine ≡ some p → Lined t (p .0) (p .1)
+layer-spelled t p e =
+    let w = next-some (behind LAYER t) _ p e in
+    let n = next-some (field 9 (w .0)) _ p (w .2) in
+    let m = next-some (field 10 (n .0 .1)) _ p (n .2) in
+    let sn = field-spelled 9 (w .0) (n .0) (n .1) in
+    let sm = field-spelled 10 (n .0 .1) (m .0) (m .1) in
+    line-pair (Layer (n .0 .0) (m .0 .0)) (m .0 .1) (m .2)
+    (record {
+      text = behind-spelled LAYER t (w .0) (w .1) ∙ ap (λ (l : List ℕ). LAYER ++ l) (sn .text ∙ ap (putField (n .0 .0) 9) (sm .text));
+      few = rw (sn .few, sm .few);
+    })
 
 rect-spelled : (t : List ℕ) (p : Line × List ℕ) → next (behind RECT t) rectLine ≡ some p → Lined t (p .0) (p .1)
 rect-spelled t p e =
@@ -138,24 +151,29 @@ pub line-spelled : (t : List ℕ) (p : Line × List ℕ) → line t ≡ some p �
 unfolding line
 line-spelled t p e = go (either-some (next (behind RECT t) rectLine) _ p e)
   where
-    other : (next (behind LAYER t) (fieldLine Layer) ≡ some p) ⊎ (next (behind PLAN t) (fieldLine Plan) ≡ some p) → Lined t (p .0) (p .1)
-    other (inl h) = number-spelled-line LAYER Layer t p (λ z r k. record { text = refl; few = k }) h
-    other (inr h) = number-spelled-line PLAN Plan t p (λ z r k. record { text = refl; few = k }) h
+    other : (next (behind LAYER t) layerLine ≡ some p) ⊎ (next (behind PLAN t) planLine ≡ some p) → Lined t (p .0) (p .1)
+    other (inl h) = layer-spelled t p h
+    other (inr h) = plan-spelled t p h
 
-    go : (next (behind RECT t) rectLine ≡ some p) ⊎ (either (next (behind LAYER t) (fieldLine Layer)) (next (behind PLAN t) (fieldLine Plan)) ≡ some p) → Lined t (p .0) (p .1)
+    go : (next (behind RECT t) rectLine ≡ some p) ⊎ (either (next (behind LAYER t) layerLine) (next (behind PLAN t) planLine) ≡ some p) → Lined t (p .0) (p .1)
     go (inl h) = rect-spelled t p h
-    go (inr h) = other (either-some (next (behind LAYER t) (fieldLine Layer)) _ p h)
+    go (inr h) = other (either-some (next (behind LAYER t) layerLine) _ p h)
+
+-- no line is read where LAYER and a single number stand
+pub old-layer : (n : ℤ) (r : List ℕ) → short n ≡ true → line (LAYER ++ putField n 10 r) ≡ none
+unfolding line kindOf
+old-layer n r h = rw (number-reads n (10 ∷ r) h refl)
 
 -- ---- a line and the bytes behind it
 
 pub spell-front : (l : Line) (r : List ℕ) → spellTo l r ≡ spellTo l [] ++ r
 spell-front (Plan k) r = simp append-assoc
-spell-front (Layer n) r = simp append-assoc
+spell-front (Layer n m) r = simp append-assoc
 spell-front (Rectangle b) r = simp append-assoc
 
 pub longer : (l : Line) (r : List ℕ) → suc (length r) ≤ length (spellTo l r)
 longer (Plan k) r = simp length-append (omega arith)
-longer (Layer n) r = simp length-append (omega arith)
+longer (Layer n m) r = simp length-append (omega arith)
 longer (Rectangle b) r = simp length-append (omega arith)
 
 pub shorter : (t : List ℕ) (p : Line × List ℕ) → line t ≡ some p → length (p .1) < length t

@@ -18,8 +18,8 @@ use Rattle.line.specs.declared.Line.{Line}
 use Rattle.line.specs.declared.Line.the-variants.{Plan, Layer, Rectangle}
 use Rattle.line.specs.declared.Found.the-variants.{At, Nothing}
 use Rattle.line.specs.Lines.{PLAN, LAYER, RECT, spellTo}
-use Rattle.line.specs.Parsing.{either, field, fieldLine, rectLine, line}
-use Rattle.line.specs.Places.{nextIs, startsWith, fieldFrom, found, rectFrom, countFrom, lineFrom, Line-at}
+use Rattle.line.specs.Parsing.{either, field, planLine, layerLine, rectLine, line}
+use Rattle.line.specs.Places.{nextIs, startsWith, fieldFrom, found, rectFrom, layerFrom, planFrom, lineFrom, Line-at}
 use Rattle.line.proofs.Lines.{field-spelled, behind-spelled, line-spelled, spell-front, shorter}
 use Rattle.line.proofs.Words.{next-inside, one-on, behind-is}
 
@@ -126,16 +126,32 @@ module _ (s : List ℕ) (at : ℕ) where
         unfolding rectFrom
         all-four top d l = rw (f .reads, g .reads, k .reads, l .reads, place s d (l .inside))
 
--- ---- the number that ends a line
+-- ---- the two fields of a LAYER line
 
-module _ (f : ℤ → Line) (s : List ℕ) (at : ℕ) where
-  pub count-good : (z : ℤ) (i : ℕ) → Fielded-at s at 10 z i → At (f z) i ≡ countFrom f s at
-  unfolding countFrom
-  count-good z i p = rw (p .reads, place s i (p .inside))
+module _ (s : List ℕ) (at : ℕ) where
+  pub no-size : field 9 (drop at s) ≡ none → Nothing ≡ layerFrom s at
+  unfolding layerFrom
+  no-size h = rw h
 
-  pub count-bad : field 10 (drop at s) ≡ none → Nothing ≡ countFrom f s at
-  unfolding countFrom
-  count-bad h = rw h
+  module _ (n : ℤ) (a : ℕ) (f : Fielded-at s at 9 n a) where
+    pub no-margin : field 10 (drop a s) ≡ none → Nothing ≡ layerFrom s at
+    unfolding layerFrom
+    no-margin h = rw (f .reads, h)
+
+    pub size-and-margin : (m : ℤ) (b : ℕ) → Fielded-at s a 10 m b → At (Layer n m) b ≡ layerFrom s at
+    unfolding layerFrom
+    size-and-margin m b g = rw (f .reads, g .reads, place s b (g .inside))
+
+-- ---- the one field of a PLAN line
+
+module _ (s : List ℕ) (at : ℕ) where
+  pub plan-good : (k : ℤ) (i : ℕ) → Fielded-at s at 10 k i → At (Plan k) i ≡ planFrom s at
+  unfolding planFrom
+  plan-good k i p = rw (p .reads, place s i (p .inside))
+
+  pub plan-bad : field 10 (drop at s) ≡ none → Nothing ≡ planFrom s at
+  unfolding planFrom
+  plan-bad h = rw h
 
 -- ---- a line, by its word
 
@@ -147,11 +163,11 @@ rect-line : (r : List ℕ) → line (RECT ++ r) ≡ rectLine r
 unfolding line
 rect-line r = either-none (rectLine r)
 
-layer-line : (r : List ℕ) → line (LAYER ++ r) ≡ fieldLine Layer r
+layer-line : (r : List ℕ) → line (LAYER ++ r) ≡ layerLine r
 unfolding line
-layer-line r = either-none (fieldLine Layer r)
+layer-line r = either-none (layerLine r)
 
-plan-line : (r : List ℕ) → line (PLAN ++ r) ≡ fieldLine Plan r
+plan-line : (r : List ℕ) → line (PLAN ++ r) ≡ planLine r
 unfolding line
 plan-line r = refl
 
@@ -165,12 +181,12 @@ module _ (s : List ℕ) (at : ℕ) where
   unfolding rectFrom lineFrom
   rect-at h = ap (found (length s)) (sym (ap line (word-at RECT s at h) ∙ rect-line (drop (at + 5) s)))
 
-  pub layer-at : startsWith LAYER (drop at s) ≡ true → countFrom Layer s (at + 6) ≡ lineFrom s at
-  unfolding countFrom lineFrom
+  pub layer-at : startsWith LAYER (drop at s) ≡ true → layerFrom s (at + 6) ≡ lineFrom s at
+  unfolding layerFrom lineFrom
   layer-at h = ap (found (length s)) (sym (ap line (word-at LAYER s at h) ∙ layer-line (drop (at + 6) s)))
 
-  pub plan-at : startsWith PLAN (drop at s) ≡ true → countFrom Plan s (at + 5) ≡ lineFrom s at
-  unfolding countFrom lineFrom
+  pub plan-at : startsWith PLAN (drop at s) ≡ true → planFrom s (at + 5) ≡ lineFrom s at
+  unfolding planFrom lineFrom
   plan-at h = ap (found (length s)) (sym (ap line (word-at PLAN s at h) ∙ plan-line (drop (at + 5) s)))
 
   pub no-word : startsWith RECT (drop at s) ≡ false → startsWith LAYER (drop at s) ≡ false → startsWith PLAN (drop at s) ≡ false → Nothing ≡ lineFrom s at

@@ -29,9 +29,10 @@ abbrev pub putRect : Rect → List ℕ → List ℕ
 putRect b r = putField (b .left) 9 (putField (b .bottom) 9 (putField (b .right) 9 (putField (b .top) 10 r)))
 
 -- a line's bytes in front of the bytes behind it
+-- 02, Q-4: a margin "written as a second number on its LAYER line"
 abbrev pub spellTo : Line → List ℕ → List ℕ
 spellTo (Plan k) r = PLAN ++ putField k 10 r
-spellTo (Layer n) r = LAYER ++ putField n 10 r
+spellTo (Layer n m) r = LAYER ++ putField n 9 (putField m 10 r)
 spellTo (Rectangle b) r = RECT ++ putRect b r
 
 -- a rectangle of short numbers
@@ -41,5 +42,5 @@ shortRect b = short (b .left) && (short (b .bottom) && (short (b .right) && shor
 -- a line of short numbers
 abbrev pub shortLine : Line → Bool
 shortLine (Plan k) = short k
-shortLine (Layer n) = short n
+shortLine (Layer n m) = short n && short m
 shortLine (Rectangle b) = shortRect b

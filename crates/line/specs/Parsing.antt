@@ -30,9 +30,16 @@ behind (w ∷ ws) (b ∷ t) = cond (eqb w b) (behind ws t) none
 abbrev pub field : ℕ → List ℕ → Reading ℤ
 field e t = next (number t) (λ p. next (behind (e ∷ []) (p .1)) (λ r. some (p .0, r)))
 
--- a number that ends a line
-abbrev pub fieldLine : (ℤ → Line) → List ℕ → Reading Line
-fieldLine f t = next (field 10 t) (λ k. some (f (k .0), k .1))
+-- the one field of a PLAN line
+abbrev pub planLine : List ℕ → Reading Line
+planLine t = next (field 10 t) (λ k. some (Plan (k .0), k .1))
+
+-- the two fields of a LAYER line
+abbrev pub layerLine : List ℕ → Reading Line
+layerLine t =
+    next (field 9 t) (λ n.
+    next (field 10 (n .1)) (λ m.
+    some (Layer (n .0) (m .0), m .1)))
 
 -- the four fields of a RECT line
 abbrev pub rectLine : List ℕ → Reading Line
@@ -47,5 +54,5 @@ rectLine t =
 unfoldable pub line : List ℕ → Reading Line
 line t =
     either (next (behind RECT t) rectLine)
-    (either (next (behind LAYER t) (fieldLine Layer))
-    (next (behind PLAN t) (fieldLine Plan)))
+    (either (next (behind LAYER t) layerLine)
+    (next (behind PLAN t) planLine))

@@ -5,7 +5,6 @@ use mathlib.Core.Option.{none, some}
 use mathlib.Core.Bool.{Bool, true, false, _&&_}
 use Prim.Native.Nat.{ℕ, _-_, _≤_, _<_}
 use lib.Dec.{eqb}
-use lib.IntN.{ℤ}
 use lib.ListN.{length, drop}
 use Rattle.decimal.specs.declared.Number.{Number}
 use Rattle.decimal.specs.Reading.{Reading}
@@ -13,7 +12,7 @@ use Rattle.decimal.specs.Places.{placed}
 use Rattle.line.specs.declared.Line.{Line}
 use Rattle.line.specs.declared.Found.{Found}
 use Rattle.line.specs.declared.Found.the-variants.{At, Nothing}
-use Rattle.line.specs.Parsing.{field, fieldLine, rectLine, line}
+use Rattle.line.specs.Parsing.{field, planLine, layerLine, rectLine, line}
 
 -- the byte b comes next
 abbrev pub nextIs : ℕ → List ℕ → Bool
@@ -38,9 +37,13 @@ found n (some p) = At (p .0) (n - length (p .1))
 unfoldable pub rectFrom : List ℕ → ℕ → Found
 rectFrom s at = found (length s) (rectLine (drop at s))
 
--- the line that f makes of the number at a place, which ends the line
-unfoldable pub countFrom : (ℤ → Line) → List ℕ → ℕ → Found
-countFrom f s at = found (length s) (fieldLine f (drop at s))
+-- the two fields of a LAYER line at a place
+unfoldable pub layerFrom : List ℕ → ℕ → Found
+layerFrom s at = found (length s) (layerLine (drop at s))
+
+-- the one field of a PLAN line at a place
+unfoldable pub planFrom : List ℕ → ℕ → Found
+planFrom s at = found (length s) (planLine (drop at s))
 
 -- the line at a place
 unfoldable pub lineFrom : List ℕ → ℕ → Found

@@ -1,4 +1,4 @@
-// The lines of a plan text: PLAN and a number, LAYER and a number, or RECT and four numbers, parted by tabs.
+// The lines of a plan text: PLAN and a number, LAYER and two numbers, or RECT and four numbers, parted by tabs.
 //
 // A line is read at a place of a text, measured, and put at a place of a buffer.
 mod measure;
@@ -14,10 +14,10 @@ pub use put::put_layer_line;
 pub use put::put_plan_line;
 pub use put::put_rect_line;
 
-// A line of the text: PLAN and k, LAYER and a size, or RECT and a rectangle.
+// A line of the text: PLAN and k, LAYER with a size and a margin, or RECT and a rectangle.
 pub enum Line {
     Plan(i32),
-    Layer(i32),
+    Layer(i32, i32),
     Rectangle(Rect),
 }
 

@@ -19,11 +19,11 @@ pub fn plan_line_size(k: u32) -> usize
     6 + size_of(k as u64)
 }
 
-// The length of the LAYER line of n.
-pub fn layer_line_size(n: u32) -> usize
-    ensures { λ v. ⌜ v ≡ length (spellTo (Layer (pos n)) []) ⌝ }
+// The length of the LAYER line of a size and a margin.
+pub fn layer_line_size(n: u32, margin: u32) -> usize
+    ensures { λ v. ⌜ v ≡ length (spellTo (Layer (pos n) (pos margin)) []) ⌝ }
 {
-    7 + size_of(n as u64)
+    8 + size_of(n as u64) + size_of(margin as u64)
 }
 
 // The length of the RECT line of a rectangle.

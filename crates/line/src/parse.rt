@@ -7,8 +7,7 @@ use geometry::Rect;
 ghost use mathlib.Core.Path.{_≡_};
 ghost use Prim.Native.Nat.{_≤_};
 ghost use lib.ListN.{length, drop};
-ghost use Rattle.line.specs.declared.Line.the-variants.{Plan, Layer};
-ghost use Rattle.line.specs.Places.{nextIs, startsWith, fieldFrom, rectFrom, countFrom, lineFrom};
+ghost use Rattle.line.specs.Places.{nextIs, startsWith, fieldFrom, rectFrom, layerFrom, planFrom, lineFrom};
 
 // Whether the byte b stands at a place.
 fn next_is(s: &[u8], i: usize, b: u8) -> bool
@@ -75,19 +74,22 @@ fn read_rect(s: &[u8], at: usize) -> Found
     Found::At(Line::Rectangle(r), d)
 }
 
-// The number of a LAYER line.
+// The two fields of a LAYER line.
 fn read_layer(s: &[u8], at: usize) -> Found
-    ensures { λ r. ⌜ r ≡ countFrom Layer (now (s .entry)) at ⌝ }
+    ensures { λ r. ⌜ r ≡ layerFrom (now (s .entry)) at ⌝ }
 {
-    match read_field(s, at, b'\n') {
-        Number::Value(n, next) => Found::At(Line::Layer(n), next),
-        Number::Bad => Found::Nothing,
-    }
+    let Number::Value(n, a) = read_field(s, at, b'\t') else {
+        return Found::Nothing;
+    };
+    let Number::Value(margin, b) = read_field(s, a, b'\n') else {
+        return Found::Nothing;
+    };
+    Found::At(Line::Layer(n, margin), b)
 }
 
 // The number of a PLAN line.
 fn read_plan(s: &[u8], at: usize) -> Found
-    ensures { λ r. ⌜ r ≡ countFrom Plan (now (s .entry)) at ⌝ }
+    ensures { λ r. ⌜ r ≡ planFrom (now (s .entry)) at ⌝ }
 {
     match read_field(s, at, b'\n') {
         Number::Value(k, next) => Found::At(Line::Plan(k), next),

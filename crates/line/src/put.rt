@@ -5,12 +5,12 @@ use decimal::put_word;
 use geometry::Rect;
 ghost use mathlib.Core.Path.{_≡_};
 ghost use mathlib.Core.Bool.{true};
-ghost use mathlib.Core.List.{[], _++_};
+ghost use mathlib.Core.List.{[]};
 ghost use Prim.Native.Nat.{_+_, _≤_};
 ghost use lib.IntN.{pos};
 ghost use lib.ListN.{length};
 ghost use Rattle.decimal.specs.Numerals.{short};
-ghost use Rattle.decimal.specs.Stores.{Put};
+ghost use Rattle.lists.specs.Stores.{Put};
 ghost use Rattle.line.specs.declared.Line.the-variants.{Plan, Layer, Rectangle};
 ghost use Rattle.line.specs.Lines.{putField, spellTo, shortRect};
 
@@ -19,15 +19,18 @@ pub fn put_plan_line(buf: &mut [u8], at: usize, k: u32) -> usize
     requires { ⌜ at + length (spellTo (Plan (pos k)) []) ≤ length (now buf) ⌝ }
     ensures { λ r. ⌜ Put (now (buf .entry)) at (spellTo (Plan (pos k)) []) (now (buf .exit)) r ⌝ }
 {
-    put_count(buf, at, b"PLAN\t", k)
+    let a = put_word(buf, at, b"PLAN\t");
+    put_count(buf, a, k, b'\n')
 }
 
-// The LAYER line of n; the place behind it.
-pub fn put_layer_line(buf: &mut [u8], at: usize, n: u32) -> usize
-    requires { ⌜ at + length (spellTo (Layer (pos n)) []) ≤ length (now buf) ⌝ }
-    ensures { λ r. ⌜ Put (now (buf .entry)) at (spellTo (Layer (pos n)) []) (now (buf .exit)) r ⌝ }
+// The LAYER line of a size and a margin; the place behind it.
+pub fn put_layer_line(buf: &mut [u8], at: usize, n: u32, margin: u32) -> usize
+    requires { ⌜ at + length (spellTo (Layer (pos n) (pos margin)) []) ≤ length (now buf) ⌝ }
+    ensures { λ r. ⌜ Put (now (buf .entry)) at (spellTo (Layer (pos n) (pos margin)) []) (now (buf .exit)) r ⌝ }
 {
-    put_count(buf, at, b"LAYER\t", n)
+    let a = put_word(buf, at, b"LAYER\t");
+    let b = put_count(buf, a, n, b'\t');
+    put_count(buf, b, margin, b'\n')
 }
 
 // The RECT line of a rectangle; the place behind it.
@@ -40,15 +43,14 @@ pub fn put_rect_line(buf: &mut [u8], at: usize, r: Rect) -> usize
     put_corner(buf, b, r.right, r.top, b'\n')
 }
 
-// A line of a word and a number; the place behind it.
-fn put_count(buf: &mut [u8], at: usize, word: &[u8], n: u32) -> usize
-    requires { ⌜ at + length (now word ++ putField (pos n) 10 []) ≤ length (now buf) ⌝ }
-    ensures { λ r. ⌜ Put (now (buf .entry)) at (now (word .entry) ++ putField (pos n) 10 []) (now (buf .exit)) r ⌝ }
+// A number that is not below 0, and the byte that ends its field; the place behind it.
+fn put_count(buf: &mut [u8], at: usize, n: u32, e: u8) -> usize
+    requires { ⌜ at + length (putField (pos n) e []) ≤ length (now buf) ⌝ }
+    ensures { λ r. ⌜ Put (now (buf .entry)) at (putField (pos n) e []) (now (buf .exit)) r ⌝ }
 {
-    let a = put_word(buf, at, word);
-    let b = put_decimal(buf, a, n as u64);
-    buf[b] = b'\n';
-    b + 1
+    let next = put_decimal(buf, at, n as u64);
+    buf[next] = e;
+    next + 1
 }
 
 // The two fields of a corner, the second ended by the byte e; the place behind them.

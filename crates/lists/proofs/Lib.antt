@@ -6,3 +6,4 @@ pub mod Numbers
 pub mod Sorting
 pub mod Parts
 pub mod Padding
+pub mod Stores

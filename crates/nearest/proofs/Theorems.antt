@@ -14,9 +14,9 @@ use Rattle.geometry.specs.Rectangles.{inRange}
 use Rattle.geometry.specs.Theorems.{Ranged}
 use Rattle.geometry.proofs.Rectangles.{ranged, in-range}
 use Rattle.plan.specs.declared.Shape.{Shape}
-use Rattle.plan.specs.Plan.{Layer, sizesOf, layers, planCause}
+use Rattle.plan.specs.Plan.{Layer, sizesOf, layers, planCause, grown}
 use Rattle.plan.specs.Spots.{layerAt}
-use Rattle.plan.proofs.Plan.{check-passed, check-failed, check-others, plan-most}
+use Rattle.plan.proofs.Plan.{check-passed, check-failed, check-others, plan-not}
 use Rattle.nearest.specs.declared.NearestAnswer.{NearestAnswer}
 use Rattle.nearest.specs.Nearest.{axisGap, squaredGap, nothing, nearestIn, nearestOf, nearestCause, nearestCall, nearCells}
 use Rattle.nearest.specs.Theorems.{IsNearest, entry, NearestCauses, NearestHolds}
@@ -30,7 +30,7 @@ causes : (s : Shape) (cells : List ℤ) (a : Rect) → NearestCauses s cells a
 unfolding nearestCause
 causes s cells a = record {
   none = check-passed (planCause s cells) 13 (λ e. box-tells a);
-  box = check-failed (planCause s cells) 13 (omega (arith, plan-most s cells)) (λ e. box-tells a);
+  box = check-failed (planCause s cells) 13 (plan-not s cells 14 (omega arith) (λ e. omega arith)) (λ e. box-tells a);
   plan = λ n p x. check-others (planCause s cells) (inRange a) 14 n p x;
 }
 
@@ -68,7 +68,7 @@ past-is s cells a j h = go (total 6 j)
   where
     go : (6 ≤ j) ⊎ (j < 6) → entry (nearestOf (layers s cells) a) j ≡ nothing
     go (inl k) = List·getD-eq-default (nearestOf (layers s cells) a .layers) nothing {n = j} k
-    go (inr k) = six (layers s cells) a j k ∙ sym (near-past a (sizesOf s) cells j (omega (arith, length-take (s .k) (s .sizes))))
+    go (inr k) = six (layers s cells) a j k ∙ sym (near-past a (sizesOf s) (grown s cells) j (omega (arith, length-take (s .k) (s .sizes))))
 
 pub nearest-holds : NearestHolds
 unfolding squaredGap axisGap

@@ -47,7 +47,7 @@ abbrev pub nearestOf : List Layer → Rect → NearestAnswer
 nearestOf ls a =
     record { number = 0; layers = nearestIn a (layerAt ls 0) ∷ nearestIn a (layerAt ls 1) ∷ nearestIn a (layerAt ls 2) ∷ nearestIn a (layerAt ls 3) ∷ nearestIn a (layerAt ls 4) ∷ nearestIn a (layerAt ls 5) ∷ [] }
 
--- 02: "the box has left > right, bottom > top or a coordinate out of range, 14, after 4"
+-- the box is as given, never grown (02, Q-4). 02: "the box has left > right, bottom > top or a coordinate out of range, 14, after 4"
 unfoldable pub nearestCause : Shape → List ℤ → Rect → ℕ
 nearestCause s cells a = planCause s cells orElse unless (inRange a) 14
 

@@ -1,10 +1,12 @@
 // What lies nearest to a box in each layer of a plan (02, Q-1).
 //
-// Rectangles are reached by the plan's layers alone. After the checks each is looked at once.
+// Rectangles are reached by the plan's layers alone. After the checks they are grown, and then each is looked at once.
 use geometry::Rect;
 use geometry::in_range;
 use geometry::span;
+use plan::MOST_CELLS;
 use plan::Shape;
+use plan::grow_plan;
 use plan::layer_cells;
 use plan::plan_cause;
 use plan::rect_at;
@@ -45,7 +47,10 @@ pub fn nearest(shape: Shape, cells: &[i32], around: Rect) -> NearestAnswer
             layers: [none, none, none, none, none, none],
         };
     }
-    nearest_told(&shape.sizes, shape.k as usize, cells, around)
+    let mut run = [0i32; MOST_CELLS];
+    grow_plan(shape, cells, &mut run);
+    let n = cells.len();
+    nearest_told(&shape.sizes, shape.k as usize, &run[..n], around)
 }
 
 // An answer as cells, three for each layer: whether anything was found (0 or 1), its place, the squared gap.
@@ -81,7 +86,7 @@ pub fn near_cells(answer: NearestAnswer) -> [u64; 18]
     ]
 }
 
-// The first of the causes 1 to 4 and 14 that applies, or 0.
+// The first of the causes 1 to 4, 17 and 14 that applies, or 0.
 fn nearest_cause(shape: Shape, cells: &[i32], around: Rect) -> u32
     ensures { λ r. ⌜ r ≡ nearestCause shape (now (cells .entry)) around ⌝ }
 {

@@ -10,9 +10,10 @@ use paging::Cursor;
 use paging::Fresh;
 use paging::Page;
 use paging::Run;
+use plan::MOST_CELLS;
 use plan::Shape;
 use slots::frame_of;
-use sweep::order_cause;
+use sweep::open_plan;
 ghost use mathlib.Core.Path.{_≡_};
 ghost use Rattle.paging.specs.Calls.{freshCall, pageCause, stopNumber, pageCall, pageTable, runCall, runTable};
 
@@ -20,16 +21,18 @@ ghost use Rattle.paging.specs.Calls.{freshCall, pageCause, stopNumber, pageCall
 pub fn fresh_cursor(shape: Shape, cells: &[i32], order: &[u32]) -> Fresh
     ensures { λ r. ⌜ r ≡ freshCall shape (now (cells .entry)) (now (order .entry)) ⌝ }
 {
-    let cause = order_cause(shape, cells, order);
+    let mut run = [0i32; MOST_CELLS];
+    let cause = open_plan(shape, cells, order, &mut run);
     if cause != 0 {
         return Fresh {
             number: cause,
             cursor: ended_cursor(),
         };
     }
+    let n = cells.len();
     Fresh {
         number: 0,
-        cursor: first_cursor(frame_of(shape), cells, order),
+        cursor: first_cursor(frame_of(shape), &run[..n], order),
     }
 }
 
@@ -46,11 +49,13 @@ pub fn fetch_page(
     ensures number { λ r. ⌜ stopNumber (r .stop) ≡ pageCause shape (now (cells .entry)) (now (order .entry)) cursor ⌝ }
     ensures table { λ _. ⌜ now (table .exit) ≡ pageTable shape (now (cells .entry)) (now (order .entry)) cursor budget (now (table .entry)) ⌝ }
 {
-    let cause = order_cause(shape, cells, order);
+    let mut run = [0i32; MOST_CELLS];
+    let cause = open_plan(shape, cells, order, &mut run);
     if cause != 0 {
         return refused_page(cause, cursor);
     }
-    page_at(frame_of(shape), cells, order, cursor, budget, table)
+    let n = cells.len();
+    page_at(frame_of(shape), &run[..n], order, cursor, budget, table)
 }
 
 // All rows of a plan's table into a lent table, if they fit (01: the whole run).
@@ -58,9 +63,11 @@ pub fn run_all(shape: Shape, cells: &[i32], order: &[u32], table: &mut [u32]) ->
     ensures answer { λ r. ⌜ r ≡ runCall shape (now (cells .entry)) (now (order .entry)) (now (table .entry)) ⌝ }
     ensures table { λ _. ⌜ now (table .exit) ≡ runTable shape (now (cells .entry)) (now (order .entry)) (now (table .entry)) ⌝ }
 {
-    let cause = order_cause(shape, cells, order);
+    let mut run = [0i32; MOST_CELLS];
+    let cause = open_plan(shape, cells, order, &mut run);
     if cause != 0 {
         return Run::Refused(cause);
     }
-    run_from(frame_of(shape), cells, order, table)
+    let n = cells.len();
+    run_from(frame_of(shape), &run[..n], order, table)
 }

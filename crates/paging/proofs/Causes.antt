@@ -12,10 +12,11 @@ use Rattle.lists.proofs.Tests.{le-tells}
 use Rattle.totals.specs.declared.Total.{Total}
 use Rattle.plan.specs.declared.Shape.{Shape}
 use Rattle.plan.specs.Causes.{onCause}
-use Rattle.plan.specs.Plan.{sizesOf, Typed, Sound}
-use Rattle.plan.proofs.Plan.{or-else-most, unless-most, check-passed, check-failed, check-others, framed}
+use Rattle.plan.specs.Plan.{sizesOf, Typed, Sound, grown}
+use Rattle.plan.proofs.Plan.{check-passed, check-failed, check-others}
+use Rattle.plan.proofs.Growing.{framed}
 use Rattle.sweep.specs.Sweep.{orderCause}
-use Rattle.sweep.proofs.Theorems.{sweep-holding}
+use Rattle.sweep.proofs.Theorems.{sweep-holding, order-not}
 use Rattle.geometry.specs.declared.Rect.{Rect}
 use Rattle.search.specs.Traversal.{Probe, Row, rowOf}
 use Rattle.search.specs.Paging.{Paged}
@@ -41,19 +42,15 @@ pub call-causes : (s : Shape) (cells : List ℤ) (order : List ℕ) (c : Cursor)
 unfolding pageCause runCause
 call-causes s cells order c table typed = record {
   page = check-passed first 5 good;
-  page-earlier = λ k p l. check-others first (isSome (resume (overlay s cells) c)) 6 k p (λ e. omega arith);
-  six = check-failed first 5 most good;
+  page-others = λ k p x. check-others first (isSome (resume (overlay s cells) c)) 6 k p x;
+  six = check-failed first 5 (order-not s cells order 6 (omega arith) (λ e. omega arith)) good;
   run = check-passed first 6 (λ z. le-tells n m);
-  run-earlier = λ k p l. check-others first (leb n m) 7 k p (λ e. omega arith);
-  seven = let i = check-failed first 6 (omega (arith, most)) (λ z. le-tells n m) in (λ e. let h = i .0 e in (h .0, omega (arith, h .1)), λ h. i .1 (h .0, λ l. omega (arith, h .1)));
-  most = (or-else-most first _ 6 (omega (arith, most)) (unless-most (isSome (resume (overlay s cells) c)) 6), or-else-most first _ 7 (omega (arith, most)) (unless-most (leb n m) 7));
+  run-others = λ k p x. check-others first (leb n m) 7 k p x;
+  seven = let i = check-failed first 6 (order-not s cells order 7 (omega arith) (λ e. omega arith)) (λ z. le-tells n m) in (λ e. let h = i .0 e in (h .0, omega (arith, h .1)), λ h. i .1 (h .0, λ l. omega (arith, h .1)));
 }
   where
     first : ℕ
     first = orderCause s cells order
-
-    most : first ≤ 5
-    most = sweep-holding .order s cells order .most
 
     n : ℕ
     n = length (overlay s cells .table)
@@ -61,8 +58,8 @@ call-causes s cells order c table typed = record {
     m : ℕ
     m = room (overlay s cells) table
 
-    good : first ≡ 0 → Tells (Good (sizesOf s) cells c) (isSome (resume (overlay s cells) c))
-    good e = resumes (sizesOf s) cells (framed s cells (sound-of s cells order typed e) .1) c
+    good : first ≡ 0 → Tells (Good (sizesOf s) (grown s cells) c) (isSome (resume (overlay s cells) c))
+    good e = resumes (sizesOf s) (grown s cells) (framed s cells (sound-of s cells order typed e) .1) c
 
 -- ---- refusals
 -- a page that was made is accepted

@@ -9,8 +9,9 @@ use borrow.Author.Tests.{leb-true, le-leb, lt-leb}
 use Rattle.lists.specs.Lists.{All}
 use Rattle.plan.specs.declared.Shape.{Shape}
 use Rattle.plan.specs.Causes.{unless, onCause}
-use Rattle.plan.specs.Plan.{sizesOf, layers, Sound}
-use Rattle.plan.proofs.Plan.{unless-zero, framed}
+use Rattle.plan.specs.Plan.{sizesOf, layers, Sound, grown}
+use Rattle.plan.proofs.Plan.{unless-zero}
+use Rattle.plan.proofs.Growing.{framed}
 use Rattle.plan.proofs.Theorems.{plans}
 use Rattle.sweep.specs.Sweep.{orderCause}
 use Rattle.totals.proofs.Totals.{value-total}
@@ -32,7 +33,7 @@ module _ (s : Shape) (cells : List ℤ) (order table : List ℕ) (sound : Sound 
 
   -- each row has k places
   rows-long : All (λ row. length row ≡ length (sizesOf s)) (overlay s cells .table)
-  rows-long = lawful (sizesOf s) cells (framed s cells sound .1) .long
+  rows-long = lawful (sizesOf s) (grown s cells) (framed s cells sound .1) .long
 
   -- k is the number of sizes
   of-k : (P : ℕ → Type 0) → P (length (sizesOf s)) → P (s .k)

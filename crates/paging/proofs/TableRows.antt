@@ -12,8 +12,8 @@ use Rattle.lists.proofs.Tests.{both}
 use Rattle.lists.proofs.Lists.{all-of-mem}
 use Rattle.geometry.specs.Rectangles.{nonempty}
 use Rattle.plan.specs.declared.Shape.{Shape}
-use Rattle.plan.specs.Plan.{Layer, layersOf, sizesOf, Sound}
-use Rattle.plan.proofs.Plan.{framed}
+use Rattle.plan.specs.Plan.{Layer, layersOf, sizesOf, Sound, grown}
+use Rattle.plan.proofs.Growing.{framed}
 use Rattle.join.specs.Join.{rects, commonOf}
 use Rattle.join.specs.Table.{sizesIn, tableOf}
 use Rattle.join.proofs.Theorems.{tables}
@@ -72,8 +72,8 @@ module _ (sizes : List ℕ) (k : ℕ) (cells : List ℤ) (table : List ℕ) (n :
         omega (arith, e, r .inside, r .framed .some, l, length-take k (drop start table), length-drop start table)
 
 -- the table that a run left has the rows of the join
-pub table-rows : (s : Shape) (cells : List ℤ) (table : List ℕ) (n : ℕ) → Sound s cells → rowsIn (s .k) n table ≡ tableOf (sizesOf s) cells → TableRows (s .sizes) (s .k) cells table n
+pub table-rows : (s : Shape) (cells : List ℤ) (table : List ℕ) (n : ℕ) → Sound s cells → rowsIn (s .k) n table ≡ tableOf (sizesOf s) (grown s cells) → TableRows (s .sizes) (s .k) (grown s cells) table n
 table-rows s cells table n sound e =
     let f = framed s cells sound in
-    let t = tables .tables (sizesOf s) cells (f .1) in
-    record { inside = f .0; framed = f .1; all = rw e (all-of-mem (tableOf (sizesOf s) cells) (λ row m. Row.rows .rows s cells sound .names row .1 (t .is .sound row m))) }
+    let t = tables .tables (sizesOf s) (grown s cells) (f .1) in
+    record { inside = f .0; framed = f .1; all = rw e (all-of-mem (tableOf (sizesOf s) (grown s cells)) (λ row m. Row.rows .rows s cells sound .names row .1 (t .is .sound row m))) }

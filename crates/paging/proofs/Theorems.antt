@@ -14,9 +14,10 @@ use Rattle.lists.proofs.Tests.{clash}
 use Rattle.geometry.specs.declared.Rect.{Rect}
 use Rattle.totals.specs.Totals.{totalOf}
 use Rattle.plan.specs.declared.Shape.{Shape}
-use Rattle.plan.specs.Plan.{sizesOf, planCause, Typed, Sound}
+use Rattle.plan.specs.Plan.{sizesOf, planCause, Typed, Sound, grown}
 use Rattle.plan.specs.Frames.{Framed}
-use Rattle.plan.proofs.Plan.{unless-zero, or-else-zero, framed}
+use Rattle.plan.proofs.Plan.{unless-zero, or-else-zero}
+use Rattle.plan.proofs.Growing.{framed}
 use Rattle.sweep.specs.Sweep.{sweepOrder, orderCause}
 use Rattle.sweep.proofs.Theorems.{sweep-holding, order-passes}
 use Rattle.join.proofs.Theorems.{tables}
@@ -42,7 +43,7 @@ use Rattle.paging.proofs.Runs.{run-holds, crossing-holds}
 
 -- the laws of a sound plan's overlay
 laws : (s : Shape) (cells : List ℤ) → Sound s cells → Lawful (overlay s cells)
-laws s cells h = lawful (sizesOf s) cells (framed s cells h .1)
+laws s cells h = lawful (sizesOf s) (grown s cells) (framed s cells h .1)
 
 -- ---- calls on a plan
 -- a call answers on its own plan's overlay
@@ -89,12 +90,12 @@ module _ (s : Shape) (cells : List ℤ) where
   all-refused n (accepted {x = x} e p q k h) = absurd (n (rw (p, q) at (accepted-plan x e)))
 
   -- the fresh cursor of a sound plan is that of the whole walk
-  pub fresh-cursor : planCause s cells ≡ 0 → freshCall s cells (sweepOrder cells) .cursor ≡ dueCursor (sizesOf s) (overlay s cells .walk)
+  pub fresh-cursor : planCause s cells ≡ 0 → freshCall s cells (sweepOrder (grown s cells)) .cursor ≡ dueCursor (sizesOf s) (overlay s cells .walk)
   unfolding freshCall
   fresh-cursor e = rw (order-passes s cells e)
 
   -- demand 3, of one list
-  paging-holds : (xs : List Call) → Typed s → Chain s cells (freshCall s cells (sweepOrder cells) .cursor) xs → PagingHolds (overlay s cells) (map served xs)
+  paging-holds : (xs : List Call) → Typed s → Chain s cells (freshCall s cells (sweepOrder (grown s cells)) .cursor) xs → PagingHolds (overlay s cells) (map served xs)
   paging-holds xs typed c = go (planCause s cells) refl
     where
       go : (n : ℕ) → planCause s cells ≡ n → PagingHolds (overlay s cells) (map served xs)
@@ -104,7 +105,7 @@ module _ (s : Shape) (cells : List ℤ) where
 -- ---- cursors
 -- the cursor of what is left is accepted, and resumes just that
 cursor-taken : (s : Shape) (cells : List ℤ) (n : ℕ) → Sound s cells
-    → let o = overlay s cells in let w = drop n (o .walk) in (pageCause s cells (sweepOrder cells) (dueCursor (o .sizes) w) ≡ 0) × (resume o (dueCursor (o .sizes) w) ≡ some w)
+    → let o = overlay s cells in let w = drop n (o .walk) in (pageCause s cells (sweepOrder (grown s cells)) (dueCursor (o .sizes) w) ≡ 0) × (resume o (dueCursor (o .sizes) w) ≡ some w)
 unfolding pageCause
 cursor-taken s cells n sound = let e = resume-due (overlay s cells) (laws s cells sound) n in (rw (order-passes s cells (sound .passed), e), e)
 
@@ -131,18 +132,18 @@ page-left x typed e = go (resume o (x .cursor)) refl
 cursor-says : (s : Shape) (cells : List ℤ) → Sound s cells → All (λ t. Says (sizesOf s) (cursorOf (sizesOf s) t) t) (overlay s cells .walk)
 cursor-says s cells h = all-of-mem (overlay s cells .walk) one
   where
-    frame : Framed (sizesOf s) cells
+    frame : Framed (sizesOf s) (grown s cells)
     frame = framed s cells h .1
 
     one : (t : Probe Rect) → List·Memᴰ t (overlay s cells .walk) → Says (sizesOf s) (cursorOf (sizesOf s) t) t
     one t m =
-        let p = cursor-names (sizesOf s) cells frame t m in
+        let p = cursor-names (sizesOf s) (grown s cells) frame t m in
         record {
           going = refl;
           layer = refl;
           place = refl;
-          few = names-filled (sizesOf s) cells frame (cursorOf (sizesOf s) t) p;
-          slots = names-slots (sizesOf s) cells frame (cursorOf (sizesOf s) t) p;
+          few = names-filled (sizesOf s) (grown s cells) frame (cursorOf (sizesOf s) t) p;
+          slots = names-slots (sizesOf s) (grown s cells) frame (cursorOf (sizesOf s) t) p;
           five = p .five;
           zeros = p .zeros;
           path = cursor-path (sizesOf s) t (all-at (walk-deep (overlay s cells) (laws s cells h)) m);
@@ -156,8 +157,8 @@ fresh-accepted s cells order e = rw e
 -- ---- demand 3
 pub demand3 : Demand3
 demand3 = record {
-  table = λ s cells h. tables .tables (sizesOf s) cells (framed s cells h .1);
-  walk = λ s cells h. walk-is-table (sizesOf s) cells (framed s cells h .1);
+  table = λ s cells h. tables .tables (sizesOf s) (grown s cells) (framed s cells h .1);
+  walk = λ s cells h. walk-is-table (sizesOf s) (grown s cells) (framed s cells h .1);
   both = λ s cells. refl;
   causes = call-causes;
   refused = refuses;

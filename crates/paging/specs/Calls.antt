@@ -25,14 +25,14 @@ use Rattle.paging.specs.Cursors.{endedCursor, dueCursor, resume}
 use Rattle.paging.specs.Pages.{fill, room, paged, areaSum, pageOf}
 use Rattle.lists.specs.Lists.{isSome}
 
--- ---- the fresh-cursor call; its checks are 1 to 5
+-- ---- the fresh-cursor call; its checks are 1 2 17 3 4 5
 -- 01: "takes plan and order and returns the fresh ticket: the first trial, or Ended where the walk is empty"; a refusal returns Ended
 unfoldable pub freshCall : Shape → List ℤ → List ℕ → Fresh
 freshCall s cells order =
     let o = overlay s cells in
     onCause (orderCause s cells order) (record { number = 0; cursor = dueCursor (o .sizes) (o .walk) }) (λ n. record { number = n; cursor = endedCursor })
 
--- ---- the page call; its checks are 1 to 6
+-- ---- the page call; its checks are 1 2 17 3 4 5 6
 unfoldable pub pageCause : Shape → List ℤ → List ℕ → Cursor → ℕ
 pageCause s cells order c = orderCause s cells order orElse unless (isSome (resume (overlay s cells) c)) 6
 
@@ -57,7 +57,7 @@ pageTable s cells order c budget table =
     let o = overlay s cells in onCause (pageCause s cells order c) (fill (map (placesOf (o .sizes)) (paged o c budget table .rows)) table) (λ n. table)
 
 -- ---- the whole run
--- its checks: 1 to 5, and 7 where "J has more rows than the table takes"
+-- its checks: 1 2 17 3 4 5, and 7 where "J has more rows than the table takes"
 unfoldable pub runCause : Shape → List ℤ → List ℕ → List ℕ → ℕ
 runCause s cells order table =
     let o = overlay s cells in orderCause s cells order orElse unless (leb (length (o .table)) (room o table)) 7
@@ -83,7 +83,7 @@ runValues (Run.Refused cause) = record { number = cause; rows = 0; probes = 0; a
 runValues (Run.Done rows probes area) = record { number = 0; rows = rows; probes = probes; area = area }
 
 -- ---- the crossing report
--- its checks: 1 to 4, 15 and 16, then the whole run's
+-- its checks: 1 2 17 3 4 15 16, then the whole run's
 unfoldable pub crossingRunCause : Shape → List ℤ → List ℕ → List ℕ → ℕ
 crossingRunCause s cells order table = crossingCause s cells orElse runCause s cells order table
 

@@ -12,7 +12,7 @@ use lib.ListN.{length, getD, take, drop}
 use Rattle.lists.specs.Lists.{All, sum, keep}
 use Rattle.totals.specs.Totals.{totalOf, valueOf}
 use Rattle.plan.specs.declared.Shape.{Shape}
-use Rattle.plan.specs.Plan.{layersOf, sizesOf, Typed, Sound}
+use Rattle.plan.specs.Plan.{layersOf, sizesOf, Typed, Sound, grown}
 use Rattle.plan.specs.Spots.{Has, spotOf}
 use Rattle.sweep.specs.Sweep.{sweepOrder, orderCause}
 use Rattle.join.specs.Join.{areaIn}
@@ -127,16 +127,14 @@ pub record NamesProbe (ns : List ℕ) (cells : List ℤ) (c : Cursor) : Type 0 w
 abbrev pub Good : List ℕ → List ℤ → Cursor → Type 0
 Good ns cells c = (c ≡ endedCursor) ⊎ NamesProbe ns cells c
 
--- each cause of the calls applies in exactly the stated case, and where no earlier one does (1 to 5: `Plans` of the crate plan, `Sweeps` of sweep)
+-- each cause of the calls applies in exactly the stated case, and where no earlier one does (1 to 5 and 17: `Plans` of the crate plan, `Sweeps` of sweep)
 pub record CallCauses (s : Shape) (cells : List ℤ) (order : List ℕ) (c : Cursor) (table : List ℕ) : Type 0 where
-  pub page : (pageCause s cells order c ≡ 0) ↔ ((orderCause s cells order ≡ 0) × Good (sizesOf s) cells c)
-  pub page-earlier : (n : ℕ) → 0 < n → n < 6 → (pageCause s cells order c ≡ n) ↔ (orderCause s cells order ≡ n)
-  pub six : (pageCause s cells order c ≡ 6) ↔ ((orderCause s cells order ≡ 0) × (Good (sizesOf s) cells c → ⊥))
+  pub page : (pageCause s cells order c ≡ 0) ↔ ((orderCause s cells order ≡ 0) × Good (sizesOf s) (grown s cells) c)
+  pub page-others : (n : ℕ) → 0 < n → (n ≡ 6 → ⊥) → (pageCause s cells order c ≡ n) ↔ (orderCause s cells order ≡ n)
+  pub six : (pageCause s cells order c ≡ 6) ↔ ((orderCause s cells order ≡ 0) × (Good (sizesOf s) (grown s cells) c → ⊥))
   pub run : (runCause s cells order table ≡ 0) ↔ ((orderCause s cells order ≡ 0) × (length (overlay s cells .table) ≤ room (overlay s cells) table))
-  pub run-earlier : (n : ℕ) → 0 < n → n < 7 → (runCause s cells order table ≡ n) ↔ (orderCause s cells order ≡ n)
+  pub run-others : (n : ℕ) → 0 < n → (n ≡ 7 → ⊥) → (runCause s cells order table ≡ n) ↔ (orderCause s cells order ≡ n)
   pub seven : (runCause s cells order table ≡ 7) ↔ ((orderCause s cells order ≡ 0) × (room (overlay s cells) table < length (overlay s cells .table)))
-  -- and there are no others
-  pub most : (pageCause s cells order c ≤ 6) × (runCause s cells order table ≤ 7)
 
 -- 01: "A refusal returns its number and 0 for all else; a page call also returns its ticket as given, and the fresh-ticket call returns Ended." Every
 -- buffer is left as it was
@@ -206,10 +204,10 @@ pub record RunHolds (s : Shape) (cells : List ℤ) (table : List ℕ) (cause : �
 
 pub record Demand3 : Type 0 where
   -- "A plan has one table and one walk, and the rows of the walk are that table, in its order."
-  pub table : (s : Shape) (cells : List ℤ) → Sound s cells → TableHolds (sizesOf s) cells
-  pub walk : (s : Shape) (cells : List ℤ) → Sound s cells → WalkIsTable (sizesOf s) cells
-  -- its overlay is made of these, of the sizes of its layers, and of the areas of rows
-  pub both : (s : Shape) (cells : List ℤ) → let ns = sizesOf s in overlay s cells ≡ record { sizes = ns; walk = walkOf ns cells; table = tableOf ns cells; area = areaIn (layersOf ns cells) }
+  pub table : (s : Shape) (cells : List ℤ) → Sound s cells → TableHolds (sizesOf s) (grown s cells)
+  pub walk : (s : Shape) (cells : List ℤ) → Sound s cells → WalkIsTable (sizesOf s) (grown s cells)
+  -- its overlay is made of these, of the sizes of its layers, and of the areas of rows, all of the grown plan
+  pub both : (s : Shape) (cells : List ℤ) → let ns = sizesOf s in let g = grown s cells in overlay s cells ≡ record { sizes = ns; walk = walkOf ns g; table = tableOf ns g; area = areaIn (layersOf ns g) }
   -- the causes of the calls
   pub causes : (s : Shape) (cells : List ℤ) (order : List ℕ) (c : Cursor) (table : List ℕ) → Typed s → CallCauses s cells order c table
   -- what a refused call returns and leaves
@@ -222,12 +220,12 @@ pub record Demand3 : Type 0 where
   pub says : (s : Shape) (cells : List ℤ) → Sound s cells → All (λ t. Says (sizesOf s) (cursorOf (sizesOf s) t) t) (overlay s cells .walk)
   -- the cursor of what is left after any number of probes is accepted, and names just that
   pub taken : (s : Shape) (cells : List ℤ) (n : ℕ) → Sound s cells
-      → let o = overlay s cells in let w = drop n (o .walk) in (pageCause s cells (sweepOrder cells) (dueCursor (o .sizes) w) ≡ 0) × (resume o (dueCursor (o .sizes) w) ≡ some w)
+      → let o = overlay s cells in let w = drop n (o .walk) in (pageCause s cells (sweepOrder (grown s cells)) (dueCursor (o .sizes) w) ≡ 0) × (resume o (dueCursor (o .sizes) w) ≡ some w)
   -- each accepted call: its cursor is that of what is left after some number of probes, and the page is of that
   pub page : (x : Call) → Typed (x .shape) → served x .cause ≡ 0
       → let o = overlay (x .shape) (x .cells) in (n : ℕ) × (x .cursor ≡ dueCursor (o .sizes) (drop n (o .walk))) × PageHolds o (served x) (drop n (o .walk))
   -- every list of page calls whose first accepted call brings the fresh cursor, on any plan
-  pub paging : (s : Shape) (cells : List ℤ) (xs : List Call) → Typed s → Chain s cells (freshCall s cells (sweepOrder cells) .cursor) xs → PagingHolds (overlay s cells) (map served xs)
+  pub paging : (s : Shape) (cells : List ℤ) (xs : List Call) → Typed s → Chain s cells (freshCall s cells (sweepOrder (grown s cells)) .cursor) xs → PagingHolds (overlay s cells) (map served xs)
   -- the whole run
   pub run : (s : Shape) (cells : List ℤ) (order table : List ℕ) → Typed s → orderCause s cells order ≡ 0
       → RunHolds s cells table (runCause s cells order table) (runValues (runCall s cells order table)) (runTable s cells order table)

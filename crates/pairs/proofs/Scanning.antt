@@ -13,7 +13,7 @@ use Rattle.geometry.specs.declared.Rect.{Rect}
 use Rattle.geometry.specs.Rectangles.{meets}
 use Rattle.plan.specs.declared.Shape.{Shape}
 use Rattle.plan.specs.Causes.{unless, onCause}
-use Rattle.plan.specs.Plan.{rectAt, layersOf, sizesOf, planCause, Sound}
+use Rattle.plan.specs.Plan.{rectAt, layersOf, sizesOf, planCause, Sound, grown}
 use Rattle.join.specs.Join.{rects}
 use Rattle.rows.specs.RowCall.{fits}
 use Rattle.rows.specs.Layers.{Reached, rectsFrom}
@@ -106,10 +106,10 @@ module _ (s : Shape) (cells : List ℤ) (row : List ℕ) where
   pair-refused zero e h = absurd (h refl)
   pair-refused (suc n) e h = rw (← e)
 
-  pub pair-accepted : (r : PairAnswer) → Sound s cells → r ≡ told (sizesOf s) cells row → r ≡ pairCall s cells row
+  pub pair-accepted : (r : PairAnswer) → Sound s cells → r ≡ told (sizesOf s) (grown s cells) row → r ≡ pairCall s cells row
   unfolding pairCall pairCause told
   pair-accepted r h e = rw (h .passed) (e ∙ go (fits (sizesOf s) row))
     where
-      go : (t : Bool) → cond t (firstPair 1 (rects (layersOf (sizesOf s) cells) row)) (Refused 23) ≡ onCause (unless t 23) (firstPair 1 (rects (layersOf (sizesOf s) cells) row)) (λ n. Refused n)
+      go : (t : Bool) → cond t (firstPair 1 (rects (layersOf (sizesOf s) (grown s cells)) row)) (Refused 23) ≡ onCause (unless t 23) (firstPair 1 (rects (layersOf (sizesOf s) (grown s cells)) row)) (λ n. Refused n)
       go true = refl
       go false = refl

@@ -15,9 +15,10 @@ use Rattle.lists.proofs.Tests.{and-true, tells}
 use Rattle.geometry.specs.declared.Rect.{Rect}
 use Rattle.geometry.specs.Rectangles.{nonempty}
 use Rattle.plan.specs.declared.Shape.{Shape}
-use Rattle.plan.specs.Plan.{sizesOf, layers, planCause, Typed, Sound}
+use Rattle.plan.specs.Plan.{sizesOf, layers, planCause, Typed, Sound, grown}
 use Rattle.plan.specs.Causes.{onCause}
-use Rattle.plan.proofs.Plan.{check-passed, check-failed, check-others, plan-most, or-else-most, unless-most, framed}
+use Rattle.plan.proofs.Plan.{check-passed, check-failed, check-others, plan-not}
+use Rattle.plan.proofs.Growing.{framed}
 use Rattle.join.specs.Join.{Within, rects, InJoin}
 use Rattle.join.specs.Table.{tableOf}
 use Rattle.join.specs.Theorems.{IsTable}
@@ -59,9 +60,8 @@ pair-causes : (s : Shape) (cells : List ℤ) → Typed s → (row : List ℕ) �
 unfolding pairCause pairCall
 pair-causes s cells typed row = record {
   none = check-passed (planCause s cells) 22 test;
-  twentyThree = check-failed (planCause s cells) 22 (omega (arith, plan-most s cells)) test;
-  earlier = λ n p l. check-others (planCause s cells) (fits (sizesOf s) row) 23 n p (λ e. omega arith);
-  most = or-else-most (planCause s cells) _ 23 (omega (arith, plan-most s cells)) (unless-most (fits (sizesOf s) row) 23);
+  twentyThree = check-failed (planCause s cells) 22 (plan-not s cells 23 (omega arith) (λ e. omega arith)) test;
+  others = λ n p x. check-others (planCause s cells) (fits (sizesOf s) row) 23 n p x;
   number = number (pairCause s cells row) (rects (layers s cells) row);
   refused = λ n e. rw e;
 }
@@ -90,10 +90,10 @@ module _ (s : Shape) (cells : List ℤ) (sound : Sound s cells) (row : List ℕ)
   call-is = rw (sound .passed, fit)
 
   within : Within (layers s cells) row
-  within = fits-within (layers s cells) row (ap (λ (ns : List ℕ). fits ns row) (sizes-of (sizesOf s) cells) ∙ fit)
+  within = fits-within (layers s cells) row (ap (λ (ns : List ℕ). fits ns row) (sizes-of (sizesOf s) (grown s cells)) ∙ fit)
 
   solid : All (λ r. nonempty r ≡ true) (rects (layers s cells) row)
-  solid = rects-solid (sizesOf s) cells row fit (framed s cells sound .1 .ranged)
+  solid = rects-solid (sizesOf s) (grown s cells) row fit (framed s cells sound .1 .ranged)
 
   is : Outcome (layers s cells) row answer
   is = subst (λ (v : PairAnswer). Outcome (layers s cells) row v) (sym call-is) (outcome within solid)
@@ -133,10 +133,10 @@ module _ (s : Shape) (cells : List ℤ) (sound : Sound s cells) (row : List ℕ)
       go (shares e h) n = absurd (n h)
       go (clears i j e f) n = (i, j, f .pair)
 
-  table-is : IsTable (layers s cells) (tableOf (sizesOf s) cells)
-  table-is = tables .tables (sizesOf s) cells (framed s cells sound .1) .is
+  table-is : IsTable (layers s cells) (tableOf (sizesOf s) (grown s cells))
+  table-is = tables .tables (sizesOf s) (grown s cells) (framed s cells sound .1) .is
 
-  in-table : (answer ≡ Share) ↔ List·Memᴰ row (tableOf (sizesOf s) cells)
+  in-table : (answer ≡ Share) ↔ List·Memᴰ row (tableOf (sizesOf s) (grown s cells))
   in-table = (λ e. table-is .complete row (share-is .0 e), λ m. share-is .1 (table-is .sound row m))
 
   named-is : (answer ≡ Share) ↔ (0 < rowValues (rowCall s cells row) .layer)

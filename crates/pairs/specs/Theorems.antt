@@ -9,7 +9,7 @@ use Rattle.lists.specs.Lists.{All, Pairwise}
 use Rattle.geometry.specs.declared.Rect.{Rect}
 use Rattle.geometry.specs.Rectangles.{In}
 use Rattle.plan.specs.declared.Shape.{Shape}
-use Rattle.plan.specs.Plan.{Layer, sizesOf, layers, planCause, Typed, Sound}
+use Rattle.plan.specs.Plan.{Layer, sizesOf, layers, planCause, Typed, Sound, grown}
 use Rattle.plan.specs.Spots.{rectOf}
 use Rattle.join.specs.Join.{InJoin}
 use Rattle.join.specs.Table.{tableOf}
@@ -51,8 +51,7 @@ Placed s row = (length row ≡ s .k) × ((j : ℕ) → j < s .k → getD row j 0
 pub record PairCauses (s : Shape) (cells : List ℤ) (row : List ℕ) : Type 0 where
   pub none : (pairCause s cells row ≡ 0) ↔ ((planCause s cells ≡ 0) × Placed s row)
   pub twentyThree : (pairCause s cells row ≡ 23) ↔ ((planCause s cells ≡ 0) × (Placed s row → ⊥))
-  pub earlier : (n : ℕ) → 0 < n → n < 23 → (pairCause s cells row ≡ n) ↔ (planCause s cells ≡ n)
-  pub most : pairCause s cells row ≤ 23
+  pub others : (n : ℕ) → 0 < n → (n ≡ 23 → ⊥) → (pairCause s cells row ≡ n) ↔ (planCause s cells ≡ n)
   pub number : pairValues (pairCall s cells row) .number ≡ pairCause s cells row
   pub refused : (n : ℕ) → pairCause s cells row ≡ suc n → pairCall s cells row ≡ Refused (suc n)
 
@@ -73,10 +72,10 @@ pub record PairHolds (s : Shape) (cells : List ℤ) (row : List ℕ) : Type 0 wh
   -- "Such a pair is there exactly when the combination has no common point"
   pub exactly : ((i : ℕ) × (j : ℕ) × IsPair (layers s cells) row i j) ↔ (InJoin (layers s cells) row → ⊥)
   -- they share a point exactly when they are a row of the table, and when the row call names one
-  pub table : (pairCall s cells row ≡ Share) ↔ List·Memᴰ row (tableOf (sizesOf s) cells)
+  pub table : (pairCall s cells row ≡ Share) ↔ List·Memᴰ row (tableOf (sizesOf s) (grown s cells))
   pub named : (pairCall s cells row ≡ Share) ↔ (0 < rowValues (rowCall s cells row) .layer)
   -- "the smallest part of it that shows this": no row of the table has the two rectangles of such a pair, whatever the others are ...
-  pub shows : (i j : ℕ) → IsPair (layers s cells) row i j → (other : List ℕ) → getD other i 0 ≡ getD row i 0 → getD other j 0 ≡ getD row j 0 → List·Memᴰ other (tableOf (sizesOf s) cells) → ⊥
+  pub shows : (i j : ℕ) → IsPair (layers s cells) row i j → (other : List ℕ) → getD other i 0 ≡ getD row i 0 → getD other j 0 ≡ getD row j 0 → List·Memᴰ other (tableOf (sizesOf s) (grown s cells)) → ⊥
   -- ... and no smaller part shows it: a rectangle alone has a point
   pub alone : (i : ℕ) → i < length (layers s cells) → Holds (chosen (layers s cells) row i)
 

@@ -4,7 +4,9 @@
 use geometry::Meeting;
 use geometry::Rect;
 use geometry::meet;
+use plan::MOST_CELLS;
 use plan::Shape;
+use plan::grow_plan;
 use plan::plan_cause;
 use rows::all_fit;
 use rows::rect_in;
@@ -39,7 +41,10 @@ pub fn apart_pair(shape: Shape, cells: &[i32], places: &[u32]) -> PairAnswer
     if cause != 0 {
         return PairAnswer::Refused(cause);
     }
-    pair_told(&shape.sizes, shape.k as usize, cells, places)
+    let mut run = [0i32; MOST_CELLS];
+    grow_plan(shape, cells, &mut run);
+    let n = cells.len();
+    pair_told(&shape.sizes, shape.k as usize, &run[..n], places)
 }
 
 // The answer for the first k layers of a sound plan.

@@ -1,3 +1,4 @@
 pub mod Plan
 pub mod Spots
+pub mod Growing
 pub mod Theorems

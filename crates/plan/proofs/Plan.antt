@@ -15,12 +15,10 @@ use Rattle.lists.specs.Lists.{All, none-left, _and_, sum, Tells}
 use Rattle.lists.proofs.Lists.{all-take}
 use Rattle.lists.proofs.Tests.{clash, both, and-true, total}
 use Rattle.geometry.specs.Rectangles.{inRange}
-use Rattle.geometry.proofs.Rectangles.{range-extent}
 use Rattle.plan.specs.Limits.{mostRects}
 use Rattle.plan.specs.declared.Shape.{Shape}
 use Rattle.plan.specs.Causes.{unless, _orElse_}
-use Rattle.plan.specs.Frames.{Framed}
-use Rattle.plan.specs.Plan.{rectAt, count, sizesOf, sizeFits, sizesFit, allRanged, planCause, Sound}
+use Rattle.plan.specs.Plan.{rectAt, count, sizesOf, grown, fitsAt, allFit, allRanged, planCause, Sound}
 use native.Mathlib.Nat.{le-refl}
 
 -- ---- two checks
@@ -60,10 +58,10 @@ module _ {P : Type 0} where
   check-passed (suc a) n f = (λ e. absurd (omega arith), λ h. absurd (omega (arith, h .0)))
 
   -- its own cause applies exactly where no earlier one does and what it tests does not hold
-  pub check-failed : (a : ℕ) {t : Bool} (n : ℕ) → a ≤ n → (a ≡ 0 → Tells P t) → ((a orElse unless t (suc n)) ≡ suc n) ↔ ((a ≡ 0) × (P → ⊥))
+  pub check-failed : (a : ℕ) {t : Bool} (n : ℕ) → (a ≡ suc n → ⊥) → (a ≡ 0 → Tells P t) → ((a orElse unless t (suc n)) ≡ suc n) ↔ ((a ≡ 0) × (P → ⊥))
   check-failed zero {t = true} n l f = (λ e. absurd (omega arith), λ h. absurd (h .1 (f refl .if-true refl)))
   check-failed zero {t = false} n l f = (λ e. (refl, f refl .if-false refl), λ h. refl)
-  check-failed (suc a) n l f = (λ e. absurd (omega arith), λ h. absurd (omega (arith, h .0)))
+  check-failed (suc a) n l f = (λ e. absurd (l e), λ h. absurd (omega (arith, h .0)))
 
 -- a cause that is not the last check's applies exactly where an earlier check gives it
 pub check-others : (a : ℕ) (t : Bool) (m n : ℕ) → 0 < n → (n ≡ m → ⊥) → ((a orElse unless t m) ≡ n) ↔ (a ≡ n)
@@ -71,36 +69,37 @@ check-others zero true m n p x = (λ e. e, λ e. e)
 check-others zero false m n p x = (λ e. absurd (x (sym e)), λ e. absurd (omega arith))
 check-others (suc a) t m n p x = (λ e. e, λ e. e)
 
--- ---- a size
-pub size-large : (k j n : ℕ) → 512 < n → false ≡ sizeFits k j n
-unfolding sizeFits
-size-large k j n h = rw (lt-leb n 512 h)
+-- ---- a number of a layer
+module _ (most k j n : ℕ) where
+  pub fit-large : most < n → false ≡ fitsAt most k j n
+  unfolding fitsAt
+  fit-large h = rw (lt-leb n most h)
 
-pub size-lower : (k j n : ℕ) → n ≤ 512 → j < k → true ≡ sizeFits k j n
-unfolding sizeFits
-size-lower k j n h p = rw (le-leb n 512 h, lt-ltb j k p)
+  pub fit-lower : n ≤ most → j < k → true ≡ fitsAt most k j n
+  unfolding fitsAt
+  fit-lower h p = rw (le-leb n most h, lt-ltb j k p)
 
-pub size-past : (k j n : ℕ) → n ≤ 512 → k ≤ j → eqb n 0 ≡ sizeFits k j n
-unfolding sizeFits
-size-past k j n h p = rw (le-leb n 512 h, le-ltb j k p)
+  pub fit-past : n ≤ most → k ≤ j → eqb n 0 ≡ fitsAt most k j n
+  unfolding fitsAt
+  fit-past h p = rw (le-leb n most h, le-ltb j k p)
 
--- ---- size by size
-pub record Sized (k : ℕ) (ns : List ℕ) (j : ℕ) : Type 0 where
+-- ---- number by number
+pub record Fitted (most k : ℕ) (ns : List ℕ) (j : ℕ) : Type 0 where
   pub within : j ≤ length ns
-  pub same : sizesFit k j (drop j ns) ≡ sizesFit k 0 ns
+  pub same : allFit most k j (drop j ns) ≡ allFit most k 0 ns
 
-module _ (k : ℕ) (ns : List ℕ) (j : ℕ) (s : Sized k ns j) (h : j < length ns) where
-  next : sizesFit k j (drop j ns) ≡ (sizeFits k j (getD ns j 0) && sizesFit k (suc j) (drop (suc j) ns))
-  next = ap (sizesFit k j) (drop-cons ns j 0 h)
+module _ (most k : ℕ) (ns : List ℕ) (j : ℕ) (s : Fitted most k ns j) (h : j < length ns) where
+  next : allFit most k j (drop j ns) ≡ (fitsAt most k j (getD ns j 0) && allFit most k (suc j) (drop (suc j) ns))
+  next = ap (allFit most k j) (drop-cons ns j 0 h)
 
-  pub sized-more : sizeFits k j (getD ns j 0) ≡ true → Sized k ns (j + 1)
-  sized-more e = rw add-one (record { within = h; same = sym (next ∙ rw e) ∙ s .same })
+  pub fitted-more : fitsAt most k j (getD ns j 0) ≡ true → Fitted most k ns (j + 1)
+  fitted-more e = rw add-one (record { within = h; same = sym (next ∙ rw e) ∙ s .same })
 
-  pub sized-not : sizeFits k j (getD ns j 0) ≡ false → false ≡ sizesFit k 0 ns
-  sized-not e = sym (next ∙ rw e) ∙ s .same
+  pub fitted-not : fitsAt most k j (getD ns j 0) ≡ false → false ≡ allFit most k 0 ns
+  fitted-not e = sym (next ∙ rw e) ∙ s .same
 
-pub sized-end : (k : ℕ) (ns : List ℕ) (j : ℕ) → Sized k ns j → length ns ≤ j → true ≡ sizesFit k 0 ns
-sized-end k ns j s h = sym (ap (sizesFit k j) (drop-of-length-le ns h)) ∙ s .same
+pub fitted-end : (most k : ℕ) (ns : List ℕ) (j : ℕ) → Fitted most k ns j → length ns ≤ j → true ≡ allFit most k 0 ns
+fitted-end most k ns j s h = sym (ap (allFit most k j) (drop-of-length-le ns h)) ∙ s .same
 
 -- ---- their sum
 pub record Summed (ns : List ℕ) (n j : ℕ) : Type 0 where
@@ -146,9 +145,9 @@ pub ranged-end : (cells : List ℤ) (i n : ℕ) → allRanged i cells ≡ true �
 ranged-end cells i n e h k = let q : i ≡ n = omega arith in sym (subst (λ (m : ℕ). allRanged m cells ≡ true) q e)
 
 -- ---- the causes
--- of a shape: the first of 1 and 2
+-- of a shape: the first of 1, 2 and 17
 abbrev pub shapeCause : Shape → ℕ
-shapeCause s = unless (leb 2 (s .k) && leb (s .k) 6) 1 orElse unless (sizesFit (s .k) 0 (s .sizes)) 2
+shapeCause s = unless (leb 2 (s .k) && leb (s .k) 6) 1 orElse unless (allFit 512 (s .k) 0 (s .sizes)) 2 orElse unless (allFit 50000 (s .k) 0 (s .margins)) 17
 
 module _ (s : Shape) where
   pub shape-low : s .k < 2 → 1 ≡ shapeCause s
@@ -158,8 +157,12 @@ module _ (s : Shape) where
     pub shape-high : 6 < s .k → 1 ≡ shapeCause s
     shape-high h = rw (le-leb 2 (s .k) low, lt-leb (s .k) 6 h)
 
-    pub shape-sizes : s .k ≤ 6 → (t : Bool) → t ≡ sizesFit (s .k) 0 (s .sizes) → unless t 2 ≡ shapeCause s
-    shape-sizes high t e = rw (le-leb 2 (s .k) low, le-leb (s .k) 6 high, e)
+    module _ (high : s .k ≤ 6) where
+      pub shape-sizes : false ≡ allFit 512 (s .k) 0 (s .sizes) → 2 ≡ shapeCause s
+      shape-sizes e = rw (le-leb 2 (s .k) low, le-leb (s .k) 6 high, ← e)
+
+      pub shape-margins : true ≡ allFit 512 (s .k) 0 (s .sizes) → (t : Bool) → t ≡ allFit 50000 (s .k) 0 (s .margins) → unless t 17 ≡ shapeCause s
+      shape-margins f t e = rw (le-leb 2 (s .k) low, le-leb (s .k) 6 high, ← f, ← e)
 
 -- of a plan
 module _ (s : Shape) (cells : List ℤ) where
@@ -178,57 +181,59 @@ module _ (s : Shape) (cells : List ℤ) where
     plan-range whole t e = rw (sound, eq-eqb (length cells) (4 * sum (s .sizes)) whole, e)
 
 -- ---- a plan that is let through
-past-zero : (k j : ℕ) (ns : List ℕ) → k ≤ j → sizesFit k j ns ≡ true → sum ns ≡ 0
-unfolding sizeFits
-past-zero k j [] h e = refl
-past-zero k j (n ∷ ns) h e =
-    let b = both (sizeFits k j n) (sizesFit k (suc j) ns) e in
-    let z = both (leb n 512) (ltb j k || eqb n 0) (b .0) .1 in
+past-zero : (m k j : ℕ) (ns : List ℕ) → k ≤ j → allFit m k j ns ≡ true → sum ns ≡ 0
+unfolding fitsAt
+past-zero m k j [] h e = refl
+past-zero m k j (n ∷ ns) h e =
+    let b = both (fitsAt m k j n) (allFit m k (suc j) ns) e in
+    let z = both (leb n m) (ltb j k || eqb n 0) (b .0) .1 in
     let y = eqb-true n 0 (rw (le-ltb j k h) at z) in
-    omega (arith, past-zero k (suc j) ns (omega arith) (b .1))
+    omega (arith, past-zero m k (suc j) ns (omega arith) (b .1))
 
-sum-front : (i k j : ℕ) (ns : List ℕ) → k ≡ i + j → sizesFit k j ns ≡ true → sum (take i ns) ≡ sum ns
-sum-front zero k j ns q e = sym (past-zero k j ns (omega arith) e)
-sum-front (suc i) k j [] q e = refl
-sum-front (suc i) k j (n ∷ ns) q e =
-    ap (λ (m : ℕ). n + m) (sum-front i k (suc j) ns (omega arith) (both (sizeFits k j n) (sizesFit k (suc j) ns) e .1))
+sum-front : (m i k j : ℕ) (ns : List ℕ) → k ≡ i + j → allFit m k j ns ≡ true → sum (take i ns) ≡ sum ns
+sum-front m zero k j ns q e = sym (past-zero m k j ns (omega arith) e)
+sum-front m (suc i) k j [] q e = refl
+sum-front m (suc i) k j (n ∷ ns) q e =
+    ap (λ (z : ℕ). n + z) (sum-front m i k (suc j) ns (omega arith) (both (fitsAt m k j n) (allFit m k (suc j) ns) e .1))
 
 -- what the checks let through
 pub record Checked (s : Shape) (cells : List ℤ) : Type 0 where
   pub low : 2 ≤ s .k
   pub high : s .k ≤ 6
-  pub fit : sizesFit (s .k) 0 (s .sizes) ≡ true
+  pub fit : allFit 512 (s .k) 0 (s .sizes) ≡ true
+  pub margins : allFit 50000 (s .k) 0 (s .margins) ≡ true
   pub whole : length cells ≡ 4 * sum (s .sizes)
   pub ranged : (k : ℕ) → k < count cells → inRange (rectAt cells k) ≡ true
 
 pub checked : (s : Shape) (cells : List ℤ) → Sound s cells → Checked s cells
 unfolding planCause
-checked s cells h = go (leb 2 (s .k) && leb (s .k) 6) refl (sizesFit (s .k) 0 (s .sizes)) refl (eqb (length cells) (4 * sum (s .sizes))) refl (allRanged (count cells) cells) refl (h .passed)
+checked s cells h = go (leb 2 (s .k) && leb (s .k) 6) refl (allFit 512 (s .k) 0 (s .sizes)) refl (allFit 50000 (s .k) 0 (s .margins)) refl (eqb (length cells) (4 * sum (s .sizes))) refl (allRanged (count cells) cells) refl (h .passed)
   where
-    go : (a : Bool) → (leb 2 (s .k) && leb (s .k) 6) ≡ a → (f : Bool) → sizesFit (s .k) 0 (s .sizes) ≡ f → (w : Bool) → eqb (length cells) (4 * sum (s .sizes)) ≡ w → (r : Bool) → allRanged (count cells) cells ≡ r
-        → _≡_ {A = ℕ} (unless a 1 orElse unless f 2 orElse unless w 3 orElse unless r 4) 0 → Checked s cells
-    go false p f x w y r z e = absurd (omega arith)
-    go true p false x w y r z e = absurd (omega arith)
-    go true p true x false y r z e = absurd (omega arith)
-    go true p true x true y false z e = absurd (omega arith)
-    go true p true x true y true z e =
+    go : (a : Bool) → (leb 2 (s .k) && leb (s .k) 6) ≡ a → (f : Bool) → allFit 512 (s .k) 0 (s .sizes) ≡ f → (m : Bool) → allFit 50000 (s .k) 0 (s .margins) ≡ m → (w : Bool) → eqb (length cells) (4 * sum (s .sizes)) ≡ w → (r : Bool) → allRanged (count cells) cells ≡ r
+        → _≡_ {A = ℕ} (unless a 1 orElse unless f 2 orElse unless m 17 orElse unless w 3 orElse unless r 4) 0 → Checked s cells
+    go false p f x m v w y r z e = absurd (omega arith)
+    go true p false x m v w y r z e = absurd (omega arith)
+    go true p true x false v w y r z e = absurd (omega arith)
+    go true p true x true v false y r z e = absurd (omega arith)
+    go true p true x true v true y false z e = absurd (omega arith)
+    go true p true x true v true y true z e =
         let h = both (leb 2 (s .k)) (leb (s .k) 6) p in
-        record { low = leb-true 2 (s .k) (h .0); high = leb-true (s .k) 6 (h .1); fit = x; whole = eqb-true (length cells) (4 * sum (s .sizes)) y; ranged = λ k h. ranged-at cells (count cells) k z h }
+        record { low = leb-true 2 (s .k) (h .0); high = leb-true (s .k) 6 (h .1); fit = x; margins = v; whole = eqb-true (length cells) (4 * sum (s .sizes)) y; ranged = λ k h. ranged-at cells (count cells) k z h }
 
 -- the sizes of the k layers make up the whole, and each is at most 512
 pub front-sum : (s : Shape) (cells : List ℤ) → Checked s cells → sum (sizesOf s) ≡ sum (s .sizes)
-front-sum s cells c = sum-front (s .k) (s .k) 0 (s .sizes) (omega arith) (c .fit)
+front-sum s cells c = sum-front 512 (s .k) (s .k) 0 (s .sizes) (omega arith) (c .fit)
 
 pub count-is : (s : Shape) (cells : List ℤ) → Checked s cells → count cells ≡ sum (s .sizes)
 count-is s cells c = omega (arith, c .whole)
 
--- each of the sizes is at most 512
-pub sizes-small : (k j : ℕ) (ns : List ℕ) → sizesFit k j ns ≡ true → All (λ n. n ≤ 512) ns
-unfolding sizeFits
-sizes-small k j [] e = none-left
-sizes-small k j (n ∷ ns) e =
-    let b = both (sizeFits k j n) (sizesFit k (suc j) ns) e in
-    _and_ (leb-true n 512 (both (leb n 512) (ltb j k || eqb n 0) (b .0) .0)) (sizes-small k (suc j) ns (b .1))
+-- each of the numbers is at most the bound
+pub fit-small : (m k j : ℕ) (ns : List ℕ) → allFit m k j ns ≡ true → All (λ n. n ≤ m) ns
+unfolding fitsAt
+fit-small m k j [] e = none-left
+fit-small m k j (n ∷ ns) e =
+    let b = both (fitsAt m k j n) (allFit m k (suc j) ns) e in
+    _and_ (leb-true n m (both (leb n m) (ltb j k || eqb n 0) (b .0) .0)) (fit-small m k (suc j) ns (b .1))
 
 pub sum-small : {ns : List ℕ} → All (λ n. n ≤ 512) ns → sum ns ≤ 512 * length ns
 sum-small none-left = zero-le
@@ -236,32 +241,24 @@ sum-small (_and_ h hs) = omega (arith, sum-small hs)
 
 -- six sizes make at most 3,072 rectangles
 pub few : (s : Shape) (cells : List ℤ) → Sound s cells → count cells ≤ mostRects
-few s cells h = let c = checked s cells h in omega (arith, h .typed .sizes, count-is s cells c, sum-small (sizes-small (s .k) 0 (s .sizes) (c .fit)))
+few s cells h = let c = checked s cells h in omega (arith, h .typed .sizes, count-is s cells c, sum-small (fit-small 512 (s .k) 0 (s .sizes) (c .fit)))
 
--- a plan that the checks let through, as its functions take it
-pub framed : (s : Shape) (cells : List ℤ) → Sound s cells → (s .k ≤ length (s .sizes)) × Framed (sizesOf s) cells
-framed s cells h =
-    let six = h .typed .sizes in
-    let c = checked s cells h in
-    let l = length-take-le (s .k) (s .sizes) (omega arith) in
-    let f = front-sum s cells c in (
-      omega arith,
-      record {
-        some = omega arith;
-        few = omega arith;
-        small = all-take (s .k) (sizes-small (s .k) 0 (s .sizes) (c .fit));
-        whole = omega arith;
-        ranged = λ k p. range-extent _ (c .ranged k (omega (arith, count-is s cells c)));
-      },
-    )
-
--- a plan is refused by 1 to 4
-pub plan-most : (s : Shape) (cells : List ℤ) → planCause s cells ≤ 4
+-- a plan is refused by 1 to 4 or 17
+pub plan-known : (s : Shape) (cells : List ℤ) → (planCause s cells ≤ 4) ⊎ (planCause s cells ≡ 17)
 unfolding planCause
-plan-most s cells = go (leb 2 (s .k) && leb (s .k) 6) (sizesFit (s .k) 0 (s .sizes)) (eqb (length cells) (4 * sum (s .sizes))) (allRanged (count cells) cells)
+plan-known s cells = go (leb 2 (s .k) && leb (s .k) 6) (allFit 512 (s .k) 0 (s .sizes)) (allFit 50000 (s .k) 0 (s .margins)) (eqb (length cells) (4 * sum (s .sizes))) (allRanged (count cells) cells)
   where
-    go : (a b c d : Bool) → (unless a 1 orElse unless b 2 orElse unless c 3 orElse unless d 4) ≤ 4
-    go false b c d = omega arith
-    go true false c d = omega arith
-    go true true false d = omega arith
-    go true true true d = unless-most d 4
+    go : (a b m c d : Bool) → let n : ℕ = unless a 1 orElse unless b 2 orElse unless m 17 orElse unless c 3 orElse unless d 4 in (n ≤ 4) ⊎ (n ≡ 17)
+    go false b m c d = inl (omega arith)
+    go true false m c d = inl (omega arith)
+    go true true false c d = inr refl
+    go true true true false d = inl (omega arith)
+    go true true true true d = inl (unless-most d 4)
+
+-- so no other number refuses it
+pub plan-not : (s : Shape) (cells : List ℤ) (n : ℕ) → 4 < n → (n ≡ 17 → ⊥) → planCause s cells ≡ n → ⊥
+plan-not s cells n h x e = go (plan-known s cells)
+  where
+    go : (planCause s cells ≤ 4) ⊎ (planCause s cells ≡ 17) → ⊥
+    go (inl p) = omega (arith, e)
+    go (inr p) = x (sym e ∙ p)

@@ -15,9 +15,10 @@ use Rattle.lists.proofs.Tests.{both, and-true, total, tells}
 use Rattle.geometry.proofs.Rectangles.{ranged, in-range}
 use Rattle.plan.specs.declared.Shape.{Shape}
 use Rattle.plan.specs.Causes.{unless, _orElse_}
-use Rattle.plan.specs.Plan.{rectAt, count, sizeFits, sizesFit, allRanged, planCause}
-use Rattle.plan.specs.Theorems.{Layered, Sized, Filled, AllIn, CausesHold, Plans}
-use Rattle.plan.proofs.Plan.{ranged-at, ranged-all, framed, front-sum, checked}
+use Rattle.plan.specs.Plan.{rectAt, count, fitsAt, allFit, allRanged, planCause}
+use Rattle.plan.specs.Theorems.{Layered, Sized, Margined, Filled, AllIn, CausesHold, Grows, Plans}
+use Rattle.plan.proofs.Plan.{ranged-at, ranged-all, front-sum, checked, plan-known}
+use Rattle.plan.proofs.Growing.{framed, grows}
 
 -- ---- the cells of a rectangle
 fields : (p : ℕ) (front : List ℤ) (left bottom right top : ℤ) (rest : List ℤ) → length front ≡ 4 * p
@@ -35,85 +36,105 @@ layered s =
     tells _ (λ e. let h = both (leb 2 (s .k)) (leb (s .k) 6) e in (leb-true 2 (s .k) (h .0), leb-true (s .k) 6 (h .1)))
     (λ h. and-true (leb 2 (s .k)) (leb (s .k) 6) (le-leb 2 (s .k) (h .0)) (le-leb (s .k) 6 (h .1)))
 
--- of the sizes from that of layer i on
-abbrev SizedFrom : ℕ → ℕ → List ℕ → Type 0
-SizedFrom k i ns = (j : ℕ) → (getD ns j 0 ≤ 512) × (k ≤ i + j → getD ns j 0 ≡ 0)
+-- of the numbers from that of layer i on
+abbrev FitFrom : ℕ → ℕ → ℕ → List ℕ → Type 0
+FitFrom m k i ns = (j : ℕ) → (getD ns j 0 ≤ m) × (k ≤ i + j → getD ns j 0 ≡ 0)
 
-sized : (k i : ℕ) (ns : List ℕ) → sizesFit k i ns ≡ true → SizedFrom k i ns
-unfolding sizeFits
-sized k i [] e j = (zero-le, λ h. refl)
-sized k i (n ∷ ns) e zero =
-    let b = both (leb n 512) (ltb i k || eqb n 0) (both (sizeFits k i n) (sizesFit k (suc i) ns) e .0) in
-    (leb-true n 512 (b .0), λ h. eqb-true n 0 (rw (le-ltb i k (omega arith)) at (b .1)))
-sized k i (n ∷ ns) e (suc j) = let r = sized k (suc i) ns (both (sizeFits k i n) (sizesFit k (suc i) ns) e .1) j in (r .0, λ h. r .1 (omega arith))
+module _ (m k : ℕ) where
+  fit-from : (i : ℕ) (ns : List ℕ) → allFit m k i ns ≡ true → FitFrom m k i ns
+  unfolding fitsAt
+  fit-from i [] e j = (zero-le, λ h. refl)
+  fit-from i (n ∷ ns) e zero =
+      let b = both (leb n m) (ltb i k || eqb n 0) (both (fitsAt m k i n) (allFit m k (suc i) ns) e .0) in
+      (leb-true n m (b .0), λ h. eqb-true n 0 (rw (le-ltb i k (omega arith)) at (b .1)))
+  fit-from i (n ∷ ns) e (suc j) = let r = fit-from (suc i) ns (both (fitsAt m k i n) (allFit m k (suc i) ns) e .1) j in (r .0, λ h. r .1 (omega arith))
 
-fitted : (k i : ℕ) (ns : List ℕ) → SizedFrom k i ns → sizesFit k i ns ≡ true
-unfolding sizeFits
-fitted k i [] f = refl
-fitted k i (n ∷ ns) f = and-true (sizeFits k i n) _ (fit (total k i)) (fitted k (suc i) ns (λ j. (f (suc j) .0, λ h. f (suc j) .1 (omega arith))))
-  where
-    fit : (k ≤ i) ⊎ (i < k) → (leb n 512 && (ltb i k || eqb n 0)) ≡ true
-    fit (inl h) = rw (le-leb n 512 (f 0 .0), le-ltb i k h, eq-eqb n 0 (f 0 .1 (omega arith)))
-    fit (inr h) = rw (le-leb n 512 (f 0 .0), lt-ltb i k h)
+  from-fit : (i : ℕ) (ns : List ℕ) → FitFrom m k i ns → allFit m k i ns ≡ true
+  unfolding fitsAt
+  from-fit i [] f = refl
+  from-fit i (n ∷ ns) f = and-true (fitsAt m k i n) _ (fit (total k i)) (from-fit (suc i) ns (λ j. (f (suc j) .0, λ h. f (suc j) .1 (omega arith))))
+    where
+      fit : (k ≤ i) ⊎ (i < k) → (leb n m && (ltb i k || eqb n 0)) ≡ true
+      fit (inl h) = rw (le-leb n m (f 0 .0), le-ltb i k h, eq-eqb n 0 (f 0 .1 (omega arith)))
+      fit (inr h) = rw (le-leb n m (f 0 .0), lt-ltb i k h)
 
--- the first of four checks that fails, exactly
-module _ (P Q R S : Type 0) where
+  fit-tells : (ns : List ℕ) → Tells ((j : ℕ) → (getD ns j 0 ≤ m) × (k ≤ j → getD ns j 0 ≡ 0)) (allFit m k 0 ns)
+  fit-tells ns =
+      tells _ (λ e j. let r = fit-from 0 ns e j in (r .0, λ h. r .1 (omega arith))) (λ h. from-fit 0 ns (λ j. (h j .0, λ l. h j .1 (omega arith))))
+
+-- the first of five checks that fails, exactly
+module _ (P Q M R S : Type 0) where
   record First (n : ℕ) : Type 0 where
-    none : (n ≡ 0) ↔ (P × Q × R × S)
+    none : (n ≡ 0) ↔ (P × Q × M × R × S)
     one : (n ≡ 1) ↔ (P → ⊥)
     two : (n ≡ 2) ↔ (P × (Q → ⊥))
-    three : (n ≡ 3) ↔ (P × Q × (R → ⊥))
-    four : (n ≡ 4) ↔ (P × Q × R × (S → ⊥))
+    seventeen : (n ≡ 17) ↔ (P × Q × (M → ⊥))
+    three : (n ≡ 3) ↔ (P × Q × M × (R → ⊥))
+    four : (n ≡ 4) ↔ (P × Q × M × R × (S → ⊥))
 
   -- a number that is not this one
   other : {n m : ℕ} {X : Type 0} → (n ≡ m → ⊥) → (X → ⊥) → (n ≡ m) ↔ X
   other f g = (λ e. absurd (f e), λ x. absurd (g x))
 
-  first : (a b c d : Bool) → Tells P a → Tells Q b → Tells R c → Tells S d → First (unless a 1 orElse unless b 2 orElse unless c 3 orElse unless d 4)
-  first false b c d p q r s = let n = p .if-false refl in record {
+  first : (a b m c d : Bool) → Tells P a → Tells Q b → Tells M m → Tells R c → Tells S d → First (unless a 1 orElse unless b 2 orElse unless m 17 orElse unless c 3 orElse unless d 4)
+  first false b m c d p q v r s = let n = p .if-false refl in record {
     none = other (λ e. omega arith) (λ h. n (h .0));
     one = (λ e. n, λ h. refl);
     two = other (λ e. omega arith) (λ h. n (h .0));
+    seventeen = other (λ e. omega arith) (λ h. n (h .0));
     three = other (λ e. omega arith) (λ h. n (h .0));
     four = other (λ e. omega arith) (λ h. n (h .0));
   }
-  first true false c d p q r s = let y = p .if-true refl in let n = q .if-false refl in record {
+  first true false m c d p q v r s = let y₁ = p .if-true refl in let n = q .if-false refl in record {
     none = other (λ e. omega arith) (λ h. n (h .1));
-    one = other (λ e. omega arith) (λ h. h y);
-    two = (λ e. (y, n), λ h. refl);
+    one = other (λ e. omega arith) (λ h. h y₁);
+    two = (λ e. (y₁, n), λ h. refl);
+    seventeen = other (λ e. omega arith) (λ h. n (h .1));
     three = other (λ e. omega arith) (λ h. n (h .1));
     four = other (λ e. omega arith) (λ h. n (h .1));
   }
-  first true true false d p q r s = let y = p .if-true refl in let z = q .if-true refl in let n = r .if-false refl in record {
+  first true true false c d p q v r s = let y₁ = p .if-true refl in let y₂ = q .if-true refl in let n = v .if-false refl in record {
     none = other (λ e. omega arith) (λ h. n (h .2));
-    one = other (λ e. omega arith) (λ h. h y);
-    two = other (λ e. omega arith) (λ h. h .1 z);
-    three = (λ e. (y, z, n), λ h. refl);
+    one = other (λ e. omega arith) (λ h. h y₁);
+    two = other (λ e. omega arith) (λ h. h .1 y₂);
+    seventeen = (λ e. (y₁, y₂, n), λ h. refl);
+    three = other (λ e. omega arith) (λ h. n (h .2));
     four = other (λ e. omega arith) (λ h. n (h .2));
   }
-  first true true true false p q r s = let y = p .if-true refl in let z = q .if-true refl in let w = r .if-true refl in let n = s .if-false refl in record {
+  first true true true false d p q v r s = let y₁ = p .if-true refl in let y₂ = q .if-true refl in let y₃ = v .if-true refl in let n = r .if-false refl in record {
     none = other (λ e. omega arith) (λ h. n (h .3));
-    one = other (λ e. omega arith) (λ h. h y);
-    two = other (λ e. omega arith) (λ h. h .1 z);
-    three = other (λ e. omega arith) (λ h. h .2 w);
-    four = (λ e. (y, z, w, n), λ h. refl);
+    one = other (λ e. omega arith) (λ h. h y₁);
+    two = other (λ e. omega arith) (λ h. h .1 y₂);
+    seventeen = other (λ e. omega arith) (λ h. h .2 y₃);
+    three = (λ e. (y₁, y₂, y₃, n), λ h. refl);
+    four = other (λ e. omega arith) (λ h. n (h .3));
   }
-  first true true true true p q r s = let y = p .if-true refl in let z = q .if-true refl in let w = r .if-true refl in let v = s .if-true refl in record {
-    none = (λ e. (y, z, w, v), λ h. refl);
-    one = other (λ e. omega arith) (λ h. h y);
-    two = other (λ e. omega arith) (λ h. h .1 z);
-    three = other (λ e. omega arith) (λ h. h .2 w);
-    four = other (λ e. omega arith) (λ h. h .3 v);
+  first true true true true false p q v r s = let y₁ = p .if-true refl in let y₂ = q .if-true refl in let y₃ = v .if-true refl in let y₄ = r .if-true refl in let n = s .if-false refl in record {
+    none = other (λ e. omega arith) (λ h. n (h .4));
+    one = other (λ e. omega arith) (λ h. h y₁);
+    two = other (λ e. omega arith) (λ h. h .1 y₂);
+    seventeen = other (λ e. omega arith) (λ h. h .2 y₃);
+    three = other (λ e. omega arith) (λ h. h .3 y₄);
+    four = (λ e. (y₁, y₂, y₃, y₄, n), λ h. refl);
+  }
+  first true true true true true p q v r s = let y₁ = p .if-true refl in let y₂ = q .if-true refl in let y₃ = v .if-true refl in let y₄ = r .if-true refl in let y₅ = s .if-true refl in record {
+    none = (λ e. (y₁, y₂, y₃, y₄, y₅), λ h. refl);
+    one = other (λ e. omega arith) (λ h. h y₁);
+    two = other (λ e. omega arith) (λ h. h .1 y₂);
+    seventeen = other (λ e. omega arith) (λ h. h .2 y₃);
+    three = other (λ e. omega arith) (λ h. h .3 y₄);
+    four = other (λ e. omega arith) (λ h. h .4 y₅);
   }
 
 causes-hold : (s : Shape) (cells : List ℤ) → CausesHold s cells
 unfolding planCause
-causes-hold s cells = record { none = f .none; one = f .one; two = f .two; three = f .three; four = f .four }
+causes-hold s cells = record { none = f .none; one = f .one; two = f .two; seventeen = f .seventeen; three = f .three; four = f .four; known = plan-known s cells }
   where
-    f : First (Layered s) (Sized s) (Filled s cells) (AllIn cells) (planCause s cells)
-    f = first (Layered s) (Sized s) (Filled s cells) (AllIn cells) (leb 2 (s .k) && leb (s .k) 6) (sizesFit (s .k) 0 (s .sizes)) (eqb (length cells) (4 * sum (s .sizes))) (allRanged (count cells) cells)
+    f : First (Layered s) (Sized s) (Margined s) (Filled s cells) (AllIn cells) (planCause s cells)
+    f = first (Layered s) (Sized s) (Margined s) (Filled s cells) (AllIn cells) (leb 2 (s .k) && leb (s .k) 6) (allFit 512 (s .k) 0 (s .sizes)) (allFit 50000 (s .k) 0 (s .margins)) (eqb (length cells) (4 * sum (s .sizes))) (allRanged (count cells) cells)
         (layered s)
-        (tells _ (λ e j. let r = sized (s .k) 0 (s .sizes) e j in (r .0, λ h. r .1 (omega arith))) (λ h. fitted (s .k) 0 (s .sizes) (λ j. (h j .0, λ k. h j .1 (omega arith)))))
+        (fit-tells 512 (s .k) (s .sizes))
+        (fit-tells 50000 (s .k) (s .margins))
         (tells _ (eqb-true (length cells) (4 * sum (s .sizes))) (eq-eqb (length cells) (4 * sum (s .sizes))))
         (tells _ (λ e i h. ranged _ (ranged-at cells (count cells) i e h)) (λ h. ranged-all cells (count cells) (λ i k. in-range _ (h i k))))
 
@@ -122,6 +143,7 @@ plans = record {
   fields = fields;
   sizes = λ s j h. getD-take (s .k) (s .sizes) j 0 h;
   causes = causes-hold;
+  grows = grows;
   frames = λ s cells h.
       let f = framed s cells h in
       (f .1, front-sum s cells (checked s cells h), length-take-le (s .k) (s .sizes) (f .0));

@@ -4,3 +4,4 @@ pub mod Plan
 pub mod Spots
 pub mod Theorems
 pub mod Frames
+pub mod Growth

@@ -1,6 +1,6 @@
--- A plan: a shape and cells (01, "The plan"), and the causes 1 to 4 that refuse one.
+-- A plan: a shape and cells (01, "The plan"), the grown plan (02, Q-4), and the causes that refuse a plan.
 use mathlib.Core.Path.{_≡_}
-use mathlib.Core.List.{List, [], _∷_}
+use mathlib.Core.List.{List, [], _∷_, _++_}
 use mathlib.Core.Bool.{Bool, true, _&&_, _||_}
 use Prim.Native.Nat.{ℕ, zero, suc, _+_, _*_, _/_}
 use lib.IntN.{ℤ, pos}
@@ -8,7 +8,7 @@ use lib.Dec.{eqb, leb, ltb}
 use lib.ListN.{length, getD, take, drop}
 use Rattle.lists.specs.Lists.{sum}
 use Rattle.geometry.specs.declared.Rect.{Rect}
-use Rattle.geometry.specs.Rectangles.{inRange}
+use Rattle.geometry.specs.Rectangles.{inRange, mostMargin, grownBy}
 use Rattle.plan.specs.declared.Shape.{Shape}
 use Rattle.plan.specs.Causes.{unless, _orElse_}
 use Rattle.plan.specs.Limits.{mostLayers, mostSize}
@@ -17,6 +17,10 @@ use Rattle.plan.specs.Limits.{mostLayers, mostSize}
 unfoldable pub rectAt : List ℤ → ℕ → Rect
 rectAt cells i =
     record { left = getD cells (4 * i) (pos 0); bottom = getD cells (4 * i + 1) (pos 0); right = getD cells (4 * i + 2) (pos 0); top = getD cells (4 * i + 3) (pos 0) }
+
+-- the four cells of a rectangle
+abbrev pub rectCells : Rect → List ℤ
+rectCells r = r .left ∷ r .bottom ∷ r .right ∷ r .top ∷ []
 
 -- how many rectangles lie in the cells; n, where check 3 is passed (sweep's specs/Theorems.antt, `counted`)
 abbrev pub count : List ℤ → ℕ
@@ -36,34 +40,51 @@ layersOf (n ∷ ns) cells = record { size = n; rect = rectAt (take (4 * n) cells
 abbrev pub sizesOf : Shape → List ℕ
 sizesOf s = take (s .k) (s .sizes)
 
--- the k layers of a plan
+-- ---- the grown plan (02, Q-4)
+-- the cells of n rectangles from place p on, each grown by m
+abbrev pub grownFrom : ℕ → (ℕ → Rect) → (p n : ℕ) → List ℤ
+grownFrom m rect p zero = []
+grownFrom m rect p (suc n) = rectCells (grownBy m (rect p)) ++ grownFrom m rect (suc p) n
+
+-- ... of layers from the one at j on, counted from 0, each by its margin
+abbrev pub grownLayers : (margins : List ℕ) → ℕ → List Layer → List ℤ
+grownLayers ms j [] = []
+grownLayers ms j (l ∷ ls) = grownFrom (getD ms j 0) (l .rect) 0 (l .size) ++ grownLayers ms (suc j) ls
+
+-- the cells of the grown plan: as the plan's lie, each rectangle "the one grown by its margin on all four sides" (specs/Theorems.antt, `Grows`)
+unfoldable pub grown : Shape → List ℤ → List ℤ
+grown s cells = grownLayers (s .margins) 0 (layersOf (sizesOf s) cells)
+
+-- the k layers of a plan, grown. 02: "Wherever a rectangle is compared, guarded, sorted or measured, it is the one grown"
 abbrev pub layers : Shape → List ℤ → List Layer
-layers s cells = layersOf (sizesOf s) cells
+layers s cells = layersOf (sizesOf s) (grown s cells)
 
 -- ---- the causes
--- 2 does not apply to the size n of layer j, counted from 0: at most 512, and 0 past k
-unfoldable pub sizeFits : (k j n : ℕ) → Bool
-sizeFits k j n = leb n mostSize && (ltb j k || eqb n 0)
+-- the number n of layer j, counted from 0, is at most `most`, and 0 past k
+unfoldable pub fitsAt : (most k j n : ℕ) → Bool
+fitsAt most k j n = leb n most && (ltb j k || eqb n 0)
 
--- ... nor to any size from that of layer j on
-abbrev pub sizesFit : (k j : ℕ) → List ℕ → Bool
-sizesFit k j [] = true
-sizesFit k j (n ∷ ns) = sizeFits k j n && sizesFit k (suc j) ns
+-- ... and so are all from that of layer j on
+abbrev pub allFit : (most k j : ℕ) → List ℕ → Bool
+allFit most k j [] = true
+allFit most k j (n ∷ ns) = fitsAt most k j n && allFit most k (suc j) ns
 
 -- 4 applies to none of the first n rectangles
 abbrev pub allRanged : ℕ → List ℤ → Bool
 allRanged zero cells = true
 allRanged (suc n) cells = allRanged n cells && inRange (rectAt cells n)
 
--- the first of the causes 1 to 4 that applies to a plan
+-- the first of the causes 1 to 4 and 17 that applies to a plan. 02, Q-4: "a margin out of range, or not 0 past k, 17, after 2"; "check 4 and the text take
+-- it ungrown"
 unfoldable pub planCause : Shape → List ℤ → ℕ
 planCause s cells =
-    unless (leb 2 (s .k) && leb (s .k) mostLayers) 1 orElse unless (sizesFit (s .k) 0 (s .sizes)) 2
+    unless (leb 2 (s .k) && leb (s .k) mostLayers) 1 orElse unless (allFit mostSize (s .k) 0 (s .sizes)) 2 orElse unless (allFit mostMargin (s .k) 0 (s .margins)) 17
     orElse unless (eqb (length cells) (4 * sum (s .sizes))) 3 orElse unless (allRanged (count cells) cells) 4
 
--- what the types of a shape's fields say: six sizes, as [u32; 6] does
+-- what the types of a shape's fields say: six sizes and six margins, as [u32; 6] does
 pub record Typed (s : Shape) : Type 0 where
   pub sizes : length (s .sizes) ≡ 6
+  pub margins : length (s .margins) ≡ 6
 
 -- a plan that none of them refuses
 pub record Sound (s : Shape) (cells : List ℤ) : Type 0 where

@@ -1,5 +1,6 @@
-// The checks 1 to 4 of a plan.
+// The checks of a plan: 1, 2, 17, 3 and 4.
 use crate::MOST_LAYERS;
+use crate::MOST_MARGIN;
 use crate::MOST_SIZE;
 use crate::Shape;
 use crate::rect_at;
@@ -9,11 +10,12 @@ ghost use mathlib.Core.Bool.{_&&_};
 ghost use Prim.Native.Nat.{_≤_};
 ghost use lib.Dec.{leb};
 ghost use Rattle.lists.specs.Lists.{sum};
-ghost use Rattle.plan.specs.Plan.{count, sizeFits, sizesFit, allRanged, planCause};
-ghost use Rattle.plan.specs.Limits.{mostLayers};
+ghost use Rattle.plan.specs.Plan.{count, fitsAt, allFit, allRanged, planCause};
+ghost use Rattle.geometry.specs.Rectangles.{mostMargin};
+ghost use Rattle.plan.specs.Limits.{mostLayers, mostSize};
 ghost use Rattle.plan.specs.Causes.{unless, _orElse_};
 
-// The first of the causes 1 to 4 that applies, or 0.
+// The first of the causes 1, 2, 17, 3 and 4 that applies, or 0.
 pub fn plan_cause(shape: Shape, cells: &[i32]) -> u32
     ensures { λ r. ⌜ r ≡ planCause shape (now (cells .entry)) ⌝ }
 {
@@ -27,9 +29,9 @@ pub fn plan_cause(shape: Shape, cells: &[i32]) -> u32
     if all_ranged(cells) { 0 } else { 4 }
 }
 
-// The first of the causes 1 and 2 that applies, or 0.
+// The first of the causes 1, 2 and 17 that applies, or 0.
 fn shape_cause(shape: Shape) -> u32
-    ensures { λ r. ⌜ r ≡ (unless (leb 2 (shape .k) && leb (shape .k) mostLayers) 1 orElse unless (sizesFit (shape .k) 0 (shape .sizes)) 2) ⌝ }
+    ensures { λ r. ⌜ r ≡ (unless (leb 2 (shape .k) && leb (shape .k) mostLayers) 1 orElse unless (allFit mostSize (shape .k) 0 (shape .sizes)) 2 orElse unless (allFit mostMargin (shape .k) 0 (shape .margins)) 17) ⌝ }
 {
     let k = shape.k as usize;
     if k < 2 {
@@ -38,16 +40,23 @@ fn shape_cause(shape: Shape) -> u32
     if k > MOST_LAYERS {
         return 1;
     }
-    if sizes_fit(&shape.sizes, k) { 0 } else { 2 }
+    if !all_fit(&shape.sizes, MOST_SIZE, k) {
+        return 2;
+    }
+    if all_fit(&shape.margins, MOST_MARGIN, k) {
+        0
+    } else {
+        17
+    }
 }
 
-// Each size is at most 512, and 0 past k.
-fn sizes_fit(sizes: &[u32], k: usize) -> bool
-    ensures { λ r. ⌜ r ≡ sizesFit k 0 (now (sizes .entry)) ⌝ }
+// Each number is at most `most`, and 0 past k.
+fn all_fit(numbers: &[u32], most: u32, k: usize) -> bool
+    ensures { λ r. ⌜ r ≡ allFit most k 0 (now (numbers .entry)) ⌝ }
 {
     let mut j = 0;
-    while j < sizes.len() {
-        if !size_fits(sizes[j], j, k) {
+    while j < numbers.len() {
+        if !fits_at(numbers[j], most, j, k) {
             return false;
         }
         j += 1;
@@ -55,10 +64,10 @@ fn sizes_fit(sizes: &[u32], k: usize) -> bool
     true
 }
 
-fn size_fits(n: u32, j: usize, k: usize) -> bool
-    ensures { λ r. ⌜ r ≡ sizeFits k j n ⌝ }
+fn fits_at(n: u32, most: u32, j: usize, k: usize) -> bool
+    ensures { λ r. ⌜ r ≡ fitsAt most k j n ⌝ }
 {
-    if n > MOST_SIZE {
+    if n > most {
         return false;
     }
     if j < k {

@@ -2,14 +2,17 @@
 //
 // A shape goes by value beside the lent cells. Rectangles are read by `rect_at` alone, from all cells or from one layer's.
 mod checks;
+mod margins;
 
 pub use checks::count_of;
 pub use checks::plan_cause;
 use geometry::Rect;
+pub use margins::grow_plan;
 ghost use mathlib.Core.Path.{_≡_};
 ghost use Prim.Native.Nat.{_+_, _*_, _≤_};
 ghost use lib.ListN.{length, take, drop};
-ghost use Rattle.plan.specs.Plan.{rectAt};
+ghost use Rattle.lists.specs.Stores.{Put};
+ghost use Rattle.plan.specs.Plan.{rectAt, rectCells};
 
 // The most layers that a plan has, the most rectangles of a layer, and of a plan, and the cells of these.
 pub const MOST_LAYERS: usize = 6;
@@ -20,10 +23,14 @@ pub const MOST_RECTS: usize = 3072;
 
 pub const MOST_CELLS: usize = 12288;
 
-// A plan's k and six sizes.
+// The largest margin of a layer.
+pub const MOST_MARGIN: u32 = 50000;
+
+// A plan's k, six sizes and six margins.
 pub struct Shape {
     pub k: u32,
     pub sizes: [u32; MOST_LAYERS],
+    pub margins: [u32; MOST_LAYERS],
 }
 
 // The cells of the layer that begins after `start` rectangles.
@@ -48,4 +55,20 @@ pub fn rect_at(cells: &[i32], place: usize) -> Rect
         right: cells[at + 2],
         top: cells[at + 3],
     }
+}
+
+// A rectangle's four cells from a place on; the place behind them.
+pub fn put_rect(cells: &mut [i32], at: usize, r: Rect) -> usize
+    requires { ⌜ at + 4 ≤ length (now cells) ⌝ }
+    ensures { λ v. ⌜ Put (now (cells .entry)) at (rectCells r) (now (cells .exit)) v ⌝ }
+{
+    let left = r.left;
+    let bottom = r.bottom;
+    let right = r.right;
+    let top = r.top;
+    cells[at] = left;
+    cells[at + 1] = bottom;
+    cells[at + 2] = right;
+    cells[at + 3] = top;
+    at + 4
 }

@@ -20,8 +20,8 @@ use Rattle.rows.specs.RowCall.{isRow}
 use Rattle.paging.specs.Theorems.{rowsIn}
 use Rattle.paging.specs.TableRows.{TableRows}
 use Rattle.paging.proofs.TableRows.{Ahead, none-read, rows-split, next-is-row, one-read, row-inside}
-use Rattle.decimal.specs.Stores.{Put}
-use Rattle.decimal.proofs.Stores.{Left, left-all, left-put, left-none}
+use Rattle.lists.specs.Stores.{Put}
+use Rattle.lists.proofs.Stores.{Left, left-all, left-put, left-none}
 use Rattle.printing.specs.Lines.{lineOf, ROW, rowFields, rowLine, rowLines}
 use Rattle.printing.specs.Parts.{FitsAt}
 use Rattle.printing.proofs.Puts.{room-left}

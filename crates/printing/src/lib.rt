@@ -11,7 +11,7 @@ ghost use mathlib.Core.List.{[], _∷_, _++_};
 ghost use Prim.Native.Nat.{_+_, _%_, _≤_};
 ghost use lib.ListN.{length, take};
 ghost use Rattle.decimal.specs.Numerals.{digits, decimal};
-ghost use Rattle.decimal.specs.Stores.{Put};
+ghost use Rattle.lists.specs.Stores.{Put};
 ghost use Rattle.plan.specs.Plan.{layersOf};
 ghost use Rattle.plan.specs.Frames.{Framed};
 ghost use Rattle.rows.specs.RowCall.{isRow};

@@ -10,10 +10,11 @@ use Rattle.lists.specs.Lists.{sum}
 use Rattle.totals.specs.declared.Total.{Total}
 use Rattle.plan.specs.declared.Shape.{Shape}
 use Rattle.plan.specs.Causes.{onCause}
-use Rattle.plan.specs.Plan.{count, sizesOf, layers, Sound}
+use Rattle.plan.specs.Plan.{count, sizesOf, layers, Sound, grown}
 use Rattle.plan.specs.Limits.{mostRects}
 use Rattle.sweep.specs.Sweep.{sweepOrder, orderAfter}
-use Rattle.plan.proofs.Plan.{few, framed}
+use Rattle.plan.proofs.Plan.{few}
+use Rattle.plan.proofs.Growing.{framed}
 use Rattle.sweep.proofs.Orders.{order-made}
 use Rattle.join.specs.Table.{tableOf}
 use Rattle.paging.specs.Pages.{room}
@@ -34,8 +35,8 @@ unfolding emptyTable
 empty-long = length-replicate {A = ℕ} runTableCells 0
 
 -- the order maker makes the sweep order of a sound plan
-pub swept : (s : Shape) (cells : List ℤ) (order after : List ℕ) → Sound s cells → length order ≡ count cells → after ≡ orderAfter s cells order → after ≡ sweepOrder cells
-swept s cells order after sound h e = e ∙ sym (order-made s cells order sound (sweepOrder cells) h refl .1 .1)
+pub swept : (s : Shape) (cells : List ℤ) (order after : List ℕ) → Sound s cells → length order ≡ count cells → after ≡ orderAfter s cells order → after ≡ sweepOrder (grown s cells)
+swept s cells order after sound h e = e ∙ sym (order-made s cells order sound (sweepOrder (grown s cells)) h refl .1 .1)
 
 -- ---- the plan's cells, n rectangles of four, and the parts of the buffers that it takes
 module _ (s : Shape) (lent : List ℤ) (n : ℕ) (e : n ≡ sum (s .sizes)) where
@@ -55,21 +56,21 @@ module _ (s : Shape) (lent : List ℤ) (n : ℕ) (e : n ≡ sum (s .sizes)) wher
 pub part-long : (order : List ℕ) (n : ℕ) → n ≤ length order → length (take n order) ≡ n
 part-long order n h = omega (arith, length-take n order)
 
-module _ (s : Shape) (cells : List ℤ) (sound : Sound s cells) (order table : List ℕ) (o : order ≡ sweepOrder cells) (long : length table ≡ runTableCells) where
+module _ (s : Shape) (cells : List ℤ) (sound : Sound s cells) (order table : List ℕ) (o : order ≡ sweepOrder (grown s cells)) (long : length table ≡ runTableCells) where
   -- the cause goes by the table's length alone
-  pub same-cause : runCause s cells order table ≡ runCause s cells (sweepOrder cells) emptyTable
+  pub same-cause : runCause s cells order table ≡ runCause s cells (sweepOrder (grown s cells)) emptyTable
   unfolding runCause
   same-cause = rw (o, long, empty-long)
 
   -- rows that the run's table takes leave room for the total
-  pub lines-fit : (rows probes : ℕ) (total : Total) → length (tableOf (sizesOf s) cells) ≤ room (overlay s cells) table
-      → length (rowLines (layers s cells) (tableOf (sizesOf s) cells) ++ totalLine rows probes total) ≤ roomForAny
+  pub lines-fit : (rows probes : ℕ) (total : Total) → length (tableOf (sizesOf s) (grown s cells)) ≤ room (overlay s cells) table
+      → length (rowLines (layers s cells) (tableOf (sizesOf s) (grown s cells)) ++ totalLine rows probes total) ≤ roomForAny
   lines-fit rows probes total h =
-      let all = tableOf (sizesOf s) cells in
+      let all = tableOf (sizesOf s) (grown s cells) in
       let n = length all in
       let k = length (sizesOf s) in
       let f = framed s cells sound .1 in
-      let c = cells-long k (lawful (sizesOf s) cells f .long) in
+      let c = cells-long k (lawful (sizesOf s) (grown s cells) f .long) in
       let q : n ≤ length table / k = omega arith in
       let m : k * n ≤ runTableCells = le-trans (mul-le-mul-left {m = n} {n = runTableCells / k} k (rw long at q)) (mul-div-le runTableCells k) in
       let t : 2 * n ≤ k * n = mul-le-mul-right n (f .some) in
@@ -90,8 +91,8 @@ refused-room out cause h = record { fits = omega (arith, refused-few cause) }
 -- no report on a plan is longer
 pub plan-longest : (s : Shape) (cells : List ℤ) → Sound s cells → length (planReport s cells) ≤ roomForAny
 unfolding planReport
-plan-longest s cells sound = go (runCause s cells (sweepOrder cells) emptyTable) refl
+plan-longest s cells sound = go (runCause s cells (sweepOrder (grown s cells)) emptyTable) refl
   where
-    go : (cause : ℕ) → runCause s cells (sweepOrder cells) emptyTable ≡ cause → length (onCause cause (tableReport s cells) refusedLine) ≤ roomForAny
-    go zero e = lines-fit s cells sound (sweepOrder cells) emptyTable refl empty-long _ _ _ (run-holds s cells (sweepOrder cells) emptyTable sound (order-passes s cells (sound .passed)) .succeeds .0 e)
+    go : (cause : ℕ) → runCause s cells (sweepOrder (grown s cells)) emptyTable ≡ cause → length (onCause cause (tableReport s cells) refusedLine) ≤ roomForAny
+    go zero e = lines-fit s cells sound (sweepOrder (grown s cells)) emptyTable refl empty-long _ _ _ (run-holds s cells (sweepOrder (grown s cells)) emptyTable sound (order-passes s cells (sound .passed)) .succeeds .0 e)
     go (suc cause) e = omega (arith, refused-few (suc cause))

@@ -10,7 +10,7 @@ use Rattle.lists.proofs.Tests.{clash}
 use Rattle.totals.specs.declared.Total.{Total}
 use Rattle.plan.specs.declared.Shape.{Shape}
 use Rattle.plan.specs.Causes.{onCause}
-use Rattle.plan.specs.Plan.{sizesOf, layers, Sound}
+use Rattle.plan.specs.Plan.{sizesOf, layers, Sound, grown}
 use Rattle.sweep.specs.Sweep.{sweepOrder}
 use Rattle.join.specs.Table.{tableOf}
 use Rattle.paging.specs.declared.Run.{Run}
@@ -49,7 +49,7 @@ module _ (rows probes : ℕ) (total : Total) where
 
 -- the run's answer and its table
 pub ran : (s : Shape) (cells : List ℤ) (order lent : List ℕ) (run : Run) (table : List ℕ)
-    → Sound s cells → order ≡ sweepOrder cells → length lent ≡ runTableCells
+    → Sound s cells → order ≡ sweepOrder (grown s cells) → length lent ≡ runTableCells
     → run ≡ runCall s cells order lent → table ≡ runTable s cells order lent → RanInto s cells run table
 ran s cells order lent run table sound o long e f =
     record { sound = sound; lent = lent; long = long; answer = rw o at e; filled = rw o at f }
@@ -59,20 +59,20 @@ module _ (s : Shape) (cells : List ℤ) (run : Run) (table : List ℕ) (h : RanI
   pub refused-report : (c : ℕ) → run ≡ Refused c → planReport s cells ≡ refusedLine c
   unfolding runCall planReport
   refused-report c e =
-      refusal _ _ _ (tableReport s cells) refusedLine (runCause s cells (sweepOrder cells) emptyTable) c
-      (rw (same-cause s cells (h .sound) (sweepOrder cells) (h .lent) refl (h .long)) at (sym e ∙ h .answer))
+      refusal _ _ _ (tableReport s cells) refusedLine (runCause s cells (sweepOrder (grown s cells)) emptyTable) c
+      (rw (same-cause s cells (h .sound) (sweepOrder (grown s cells)) (h .lent) refl (h .long)) at (sym e ∙ h .answer))
 
   module _ (rows probes : ℕ) (total : Total) (e : run ≡ Done rows probes total) where
     -- what is printed where it succeeds, and the rows that the table has
     record Told : Type 0 where
-      is : planReport s cells ≡ rowLines (layers s cells) (tableOf (sizesOf s) cells) ++ totalLine rows probes total
-      read : rowsIn (s .k) rows table ≡ tableOf (sizesOf s) cells
-      short : length (rowLines (layers s cells) (tableOf (sizesOf s) cells) ++ totalLine rows probes total) ≤ roomForAny
+      is : planReport s cells ≡ rowLines (layers s cells) (tableOf (sizesOf s) (grown s cells)) ++ totalLine rows probes total
+      read : rowsIn (s .k) rows table ≡ tableOf (sizesOf s) (grown s cells)
+      short : length (rowLines (layers s cells) (tableOf (sizesOf s) (grown s cells)) ++ totalLine rows probes total) ≤ roomForAny
 
     told : Told
     unfolding runCall planReport
     told =
-        let order = sweepOrder cells in
+        let order = sweepOrder (grown s cells) in
         let lent = h .lent in
         let d = success _ _ _ (runCause s cells order lent) rows probes total (sym e ∙ h .answer) in
         let z : runCause s cells order emptyTable ≡ 0 = sym (same-cause s cells (h .sound) order lent refl (h .long)) ∙ d .0 in
@@ -87,7 +87,7 @@ module _ (s : Shape) (cells : List ℤ) (run : Run) (table : List ℕ) (h : RanI
     printed = rw (told .read) (told .is)
 
     -- what is asked for where the lines are put
-    pub rows-run : TableRows (s .sizes) (s .k) cells table rows
+    pub rows-run : TableRows (s .sizes) (s .k) (grown s cells) table rows
     rows-run = table-rows s cells table rows (h .sound) (told .read)
 
     pub lines-room : (out : List ℕ) → roomForAny ≤ length out → FitsAt out 0 (rowLines (layers s cells) (rowsIn (s .k) rows table) ++ totalLine rows probes total)

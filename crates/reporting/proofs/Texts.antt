@@ -14,8 +14,8 @@ use Rattle.plan.specs.Limits.{mostCells}
 use Rattle.text.specs.declared.Reading.{Reading}
 use Rattle.text.specs.Reader.{readCause, textShape, textCells, readAnswer, cellsAfter}
 use Rattle.text.proofs.Theorems.{round-trip}
-use Rattle.decimal.specs.Stores.{Put}
-use Rattle.decimal.proofs.Stores.{put-start, put-length}
+use Rattle.lists.specs.Stores.{Put}
+use Rattle.lists.proofs.Stores.{put-start, put-length}
 use Rattle.printing.specs.Lines.{refusedLine}
 use Rattle.printing.proofs.Lines.{refused-few}
 use Rattle.reporting.specs.Report.{reportOf, reportCause, roomForAny, outAfter}

@@ -13,7 +13,7 @@ use Rattle.totals.specs.Totals.{totalOf}
 use Rattle.lists.proofs.Tests.{total}
 use Rattle.plan.specs.declared.Shape.{Shape}
 use Rattle.plan.specs.Limits.{mostCells}
-use Rattle.plan.specs.Plan.{sizesOf, layers, Sound}
+use Rattle.plan.specs.Plan.{sizesOf, layers, Sound, grown}
 use Rattle.join.specs.Join.{areaIn}
 use Rattle.join.specs.Table.{tableOf}
 use Rattle.walk.specs.Walk.{walkOf}
@@ -40,14 +40,14 @@ module _ (s : Shape) (cells : List ℤ) (sound : Sound s cells) where
   rooms : room (overlay s cells) emptyTable ≡ 12288 / s .k
   rooms = rw (plans .frames s cells sound .2, empty-long) (omega (arith, div-le-self 12288 (s .k)))
 
-  full-report : 12288 / s .k < length (tableOf (sizesOf s) cells) → planReport s cells ≡ refusedLine 7
+  full-report : 12288 / s .k < length (tableOf (sizesOf s) (grown s cells)) → planReport s cells ≡ refusedLine 7
   unfolding planReport runCause
-  full-report h = rw (order-passes s cells (sound .passed), rooms, lt-leb (length (tableOf (sizesOf s) cells)) (12288 / s .k) h)
+  full-report h = rw (order-passes s cells (sound .passed), rooms, lt-leb (length (tableOf (sizesOf s) (grown s cells))) (12288 / s .k) h)
 
-  table-report : length (tableOf (sizesOf s) cells) ≤ 12288 / s .k
-      → planReport s cells ≡ rowLines (layers s cells) (tableOf (sizesOf s) cells) ++ totalLine (length (tableOf (sizesOf s) cells)) (length (walkOf (sizesOf s) cells)) (totalOf (sum (map (areaIn (layers s cells)) (tableOf (sizesOf s) cells))))
+  table-report : length (tableOf (sizesOf s) (grown s cells)) ≤ 12288 / s .k
+      → planReport s cells ≡ rowLines (layers s cells) (tableOf (sizesOf s) (grown s cells)) ++ totalLine (length (tableOf (sizesOf s) (grown s cells))) (length (walkOf (sizesOf s) (grown s cells))) (totalOf (sum (map (areaIn (layers s cells)) (tableOf (sizesOf s) (grown s cells)))))
   unfolding planReport runCause runCall
-  table-report h = rw (order-passes s cells (sound .passed), rooms, le-leb (length (tableOf (sizesOf s) cells)) (12288 / s .k) h)
+  table-report h = rw (order-passes s cells (sound .passed), rooms, le-leb (length (tableOf (sizesOf s) (grown s cells))) (12288 / s .k) h)
 
 -- the text of a plan is accepted, and the report is the plan's
 of-plan : (t : List ℕ) → length t ≤ 65536 → (p : PlanText t) → reportOf t ≡ planReport (p .shape) (p .plan)
@@ -61,14 +61,14 @@ of-plan t h p =
 prints : (t : List ℕ) → Prints t (reportOf t)
 prints t = size (total (length t) 65536)
   where
-    plan : length t ≤ 65536 → (p : PlanText t) → (length (tableOf (sizesOf (p .shape)) (p .plan)) ≤ 12288 / p .shape .k) ⊎ (12288 / p .shape .k < length (tableOf (sizesOf (p .shape)) (p .plan))) → Prints t (reportOf t)
+    plan : length t ≤ 65536 → (p : PlanText t) → (length (tableOf (sizesOf (p .shape)) (grown (p .shape) (p .plan))) ≤ 12288 / p .shape .k) ⊎ (12288 / p .shape .k < length (tableOf (sizesOf (p .shape)) (grown (p .shape) (p .plan)))) → Prints t (reportOf t)
     plan h p (inl l) = rw (of-plan t h p, table-report (p .shape) (p .plan) (p .sound) l) (Theorems.table h p l)
     plan h p (inr g) = rw (of-plan t h p, full-report (p .shape) (p .plan) (p .sound) g) (Theorems.full h p g)
 
     read : length t ≤ 65536 → Verdict mostCells t → Prints t (reportOf t)
     read h (not-formed k x) = rw (refused-text t h 9 (sym k) (λ z. omega (arith, z))) (Theorems.unformed h x)
     read h (no-plan k w x) = rw (refused-text t h 10 (sym k) (λ z. omega (arith, z))) (Theorems.no-plan h w x)
-    read h (of p) = plan h p (total (length (tableOf (sizesOf (p .shape)) (p .plan))) (12288 / p .shape .k))
+    read h (of p) = plan h p (total (length (tableOf (sizesOf (p .shape)) (grown (p .shape) (p .plan)))) (12288 / p .shape .k))
 
     size : (length t ≤ 65536) ⊎ (65536 < length t) → Prints t (reportOf t)
     size (inl h) = read h (verdict mostCells t)

@@ -7,7 +7,7 @@ use lib.ListN.{length, take}
 use Rattle.lists.specs.Lists.{sum}
 use Rattle.plan.specs.declared.Shape.{Shape}
 use Rattle.plan.specs.Causes.{onCause}
-use Rattle.plan.specs.Plan.{Sound}
+use Rattle.plan.specs.Plan.{Sound, grown}
 use Rattle.sweep.specs.Sweep.{sweepOrder}
 use Rattle.paging.specs.declared.Run.{Run}
 use Rattle.paging.specs.Calls.{runCause, runCall, runTable}
@@ -16,7 +16,7 @@ use Rattle.reporting.specs.Report.{runTableCells, emptyTable, tableRepor
 
 -- what is printed for a plan
 unfoldable pub planReport : Shape → List ℤ → List ℕ
-planReport s cells = onCause (runCause s cells (sweepOrder cells) emptyTable) (tableReport s cells) refusedLine
+planReport s cells = onCause (runCause s cells (sweepOrder (grown s cells)) emptyTable) (tableReport s cells) refusedLine
 
 -- the first cells, four for each rectangle of a shape
 abbrev pub planCells : Shape → List ℤ → List ℤ
@@ -32,5 +32,5 @@ pub record RanInto (s : Shape) (cells : List ℤ) (run : Run) (table : List ℕ)
   pub sound : Sound s cells
   pub lent : List ℕ
   pub long : length lent ≡ runTableCells
-  pub answer : run ≡ runCall s cells (sweepOrder cells) lent
-  pub filled : table ≡ runTable s cells (sweepOrder cells) lent
+  pub answer : run ≡ runCall s cells (sweepOrder (grown s cells)) lent
+  pub filled : table ≡ runTable s cells (sweepOrder (grown s cells)) lent

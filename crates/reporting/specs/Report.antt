@@ -7,7 +7,7 @@ use lib.ListN.{length, drop, replicate}
 use Rattle.plan.specs.declared.Shape.{Shape}
 use Rattle.plan.specs.Causes.{unless, _orElse_, onCause}
 use Rattle.plan.specs.Limits.{mostCells}
-use Rattle.plan.specs.Plan.{sizesOf, layers}
+use Rattle.plan.specs.Plan.{sizesOf, layers, grown}
 use Rattle.sweep.specs.Sweep.{sweepOrder}
 use Rattle.join.specs.Table.{tableOf}
 use Rattle.paging.specs.Calls.{runValues, runCause, runCall}
@@ -24,12 +24,12 @@ emptyTable = replicate runTableCells 0
 
 -- the lines of all rows, and the total of the whole run in sweep order; printed only where the run is not refused, and its counts are those of these rows
 abbrev pub tableReport : Shape → List ℤ → List ℕ
-tableReport s cells = let v = runValues (runCall s cells (sweepOrder cells) emptyTable) in rowLines (layers s cells) (tableOf (sizesOf s) cells) ++ totalLine (v .rows) (v .probes) (v .area)
+tableReport s cells = let v = runValues (runCall s cells (sweepOrder (grown s cells)) emptyTable) in rowLines (layers s cells) (tableOf (sizesOf s) (grown s cells)) ++ totalLine (v .rows) (v .probes) (v .area)
 
 -- 13, "input above 65,536 bytes", comes "before all others"; then the reader's causes, where it is lent cells for any plan; then those of the whole run
 unfoldable pub reportCause : List ℕ → ℕ
 reportCause t =
-    unless (leb (length t) 65536) 13 orElse readCause mostCells t orElse runCause (textShape t) (textCells t) (sweepOrder (textCells t)) emptyTable
+    unless (leb (length t) 65536) 13 orElse readCause mostCells t orElse runCause (textShape t) (textCells t) (sweepOrder (grown (textShape t) (textCells t))) emptyTable
 
 -- what is printed for a text
 unfoldable pub reportOf : List ℕ → List ℕ

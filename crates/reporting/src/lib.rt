@@ -7,17 +7,24 @@ use plan::MOST_CELLS;
 use plan::MOST_RECTS;
 use plan::Shape;
 use plan::count_of;
+use plan::grow_plan;
 use printing::put_refused;
 use printing::put_table;
 use sweep::make_order;
 use text::read;
+use totals::Total;
 ghost use mathlib.Core.Path.{_≡_};
+ghost use mathlib.Core.List.{_++_};
 ghost use Prim.Native.Nat.{_≤_};
 ghost use lib.ListN.{length, take, replicate};
 ghost use Rattle.plan.specs.Limits.{mostCells};
-ghost use Rattle.plan.specs.Plan.{count, Sound};
+ghost use Rattle.plan.specs.Plan.{count, grown, layers, Sound};
 ghost use Rattle.sweep.specs.Sweep.{sweepOrder};
-ghost use Rattle.decimal.specs.Stores.{Put};
+ghost use Rattle.lists.specs.Stores.{Put};
+ghost use Rattle.paging.specs.Theorems.{rowsIn};
+ghost use Rattle.paging.specs.TableRows.{TableRows};
+ghost use Rattle.printing.specs.Lines.{rowLines, totalLine};
+ghost use Rattle.printing.specs.Parts.{FitsAt};
 ghost use Rattle.reporting.specs.Report.{runTableCells, roomForAny, reportOf, outAfter};
 ghost use Rattle.reporting.specs.Parts.{planCells, Lent, RanInto, planReport};
 
@@ -153,7 +160,7 @@ fn report_ordered(
     table: &mut [u32],
     out: &mut [u8],
 ) -> usize
-    requires { ⌜ Sound shape (now cells) × (now order ≡ sweepOrder (now cells)) × (length (now table) ≡ runTableCells) × (roomForAny ≤ length (now out)) ⌝ }
+    requires { ⌜ Sound shape (now cells) × (now order ≡ sweepOrder (grown shape (now cells))) × (length (now table) ≡ runTableCells) × (roomForAny ≤ length (now out)) ⌝ }
     ensures { λ r. ⌜ Put (now (out .entry)) 0 (planReport shape (now (cells .entry))) (now (out .exit)) r ⌝ }
 {
     let run = run_all(shape, cells, order, table);
@@ -167,15 +174,37 @@ fn report_run(run: Run, shape: Shape, cells: &[i32], table: &[u32], out: &mut [u
 {
     match run {
         Run::Refused(cause) => put_refused(out, 0, cause),
-        Run::Done(rows, probes, total) => put_table(
-            out,
-            &shape.sizes,
-            shape.k as usize,
-            cells,
-            table,
-            rows,
-            probes,
-            total,
-        ),
+        Run::Done(rows, probes, total) => {
+            put_grown(out, shape, cells, table, rows, probes, total)
+        }
     }
+}
+
+// The lines of a sound plan's table, and the total.
+fn put_grown(
+    out: &mut [u8],
+    shape: Shape,
+    cells: &[i32],
+    table: &[u32],
+    rows: u32,
+    probes: u64,
+    total: Total,
+) -> usize
+    requires { ⌜ Sound shape (now cells) × TableRows (shape .sizes) (shape .k) (grown shape (now cells)) (now table) rows ⌝ }
+    requires { ⌜ FitsAt (now out) 0 (rowLines (layers shape (now cells)) (rowsIn (shape .k) rows (now table)) ++ totalLine rows probes total) ⌝ }
+    ensures { λ r. ⌜ Put (now (out .entry)) 0 (rowLines (layers shape (now (cells .entry))) (rowsIn (shape .k) rows (now (table .entry))) ++ totalLine rows probes total) (now (out .exit)) r ⌝ }
+{
+    let mut run = [0i32; MOST_CELLS];
+    grow_plan(shape, cells, &mut run);
+    let n = cells.len();
+    put_table(
+        out,
+        &shape.sizes,
+        shape.k as usize,
+        &run[..n],
+        table,
+        rows,
+        probes,
+        total,
+    )
 }

@@ -8,8 +8,8 @@ use native.Mathlib.Omega.{arith}
 use lib.IntN.{ℤ}
 use Rattle.lists.proofs.Tests.{never-true}
 use Rattle.plan.specs.declared.Shape.{Shape}
-use Rattle.plan.specs.Plan.{planCause, sizesOf, layers, Sound}
-use Rattle.plan.proofs.Plan.{framed}
+use Rattle.plan.specs.Plan.{planCause, sizesOf, layers, Sound, grown}
+use Rattle.plan.proofs.Growing.{framed}
 use Rattle.plan.proofs.Spots.{layers-long}
 use Rattle.join.specs.Join.{rects, InJoin, areaIn, guardLayer}
 use Rattle.join.specs.Table.{tableOf}
@@ -35,11 +35,11 @@ rows-hold s cells sound = record {
   others = λ row m. call-none s cells row sound (never-true (isRow (layers s cells) row) (λ e. m (is .complete row (names row .0 e))));
 }
   where
-    is : IsTable (layers s cells) (tableOf (sizesOf s) cells)
-    is = tables .tables (sizesOf s) cells (framed s cells sound .1) .is
+    is : IsTable (layers s cells) (tableOf (sizesOf s) (grown s cells))
+    is = tables .tables (sizesOf s) (grown s cells) (framed s cells sound .1) .is
 
     names : (row : List ℕ) → (isRow (layers s cells) row ≡ true) ↔ InJoin (layers s cells) row
-    names = is-row (layers s cells) (omega (arith, layers-long (sizesOf s) cells, framed s cells sound .1 .some))
+    names = is-row (layers s cells) (omega (arith, layers-long (sizesOf s) (grown s cells), framed s cells sound .1 .some))
 
 row-refusals : (s : Shape) (cells : List ℤ) (n : ℕ) → planCause s cells ≡ suc n → (row : List ℕ) → rowValues (rowCall s cells row) ≡ record { number = suc n; layer = 0; area = 0 }
 unfolding rowCall

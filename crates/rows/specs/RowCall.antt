@@ -24,7 +24,7 @@ fits (n ∷ ns) (p ∷ row) = ltb p n && fits ns row
 unfoldable pub isRow : List Layer → List ℕ → Bool
 isRow ls row = fits (sizesIn ls) row && nonempty (commonOf (rects ls row))
 
--- the row call; its checks are 1 to 4. 01: "Where they are not k cells or name no row of J, it returns layer 0 and area 0."
+-- the row call; its checks are 1 2 17 3 4. 01: "Where they are not k cells or name no row of J, it returns layer 0 and area 0."
 unfoldable pub rowCall : Shape → List ℤ → List ℕ → RowAnswer
 rowCall s cells row = let ls = layers s cells in onCause (planCause s cells) (cond (isRow ls row) (Row (suc (guardLayer (rects ls row))) (areaIn ls row)) NoRow) (λ n. Refused n)
 

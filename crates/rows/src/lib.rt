@@ -3,7 +3,9 @@ use geometry::Meeting;
 use geometry::Rect;
 use geometry::area;
 use geometry::meet;
+use plan::MOST_CELLS;
 use plan::Shape;
+use plan::grow_plan;
 use plan::layer_cells;
 use plan::plan_cause;
 use plan::rect_at;
@@ -44,7 +46,10 @@ pub fn row(shape: Shape, cells: &[i32], places: &[u32]) -> RowAnswer
     if cause != 0 {
         return RowAnswer::Refused(cause);
     }
-    row_told(&shape.sizes, shape.k as usize, cells, places)
+    let mut run = [0i32; MOST_CELLS];
+    grow_plan(shape, cells, &mut run);
+    let n = cells.len();
+    row_told(&shape.sizes, shape.k as usize, &run[..n], places)
 }
 
 // What the cells name among the first k layers of a sound plan.

@@ -13,8 +13,8 @@ use Rattle.lists.proofs.Tests.{both}
 use Rattle.plan.specs.Causes.{unless}
 use Rattle.plan.specs.Limits.{mostSize}
 use Rattle.plan.proofs.Plan.{or-else-zero, unless-zero}
-use Rattle.decimal.specs.Stores.{Put}
-use Rattle.decimal.proofs.Stores.{put-start}
+use Rattle.lists.specs.Stores.{Put}
+use Rattle.lists.proofs.Stores.{put-start}
 use Rattle.survey.specs.declared.Corners.{Corners}
 use Rattle.survey.specs.declared.Strip.{Strip}
 use Rattle.survey.specs.declared.Covering.{Covering}

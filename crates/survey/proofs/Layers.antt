@@ -141,15 +141,16 @@ sum-padded zero (a ∷ l) h = absurd (omega arith)
 sum-padded (suc m) [] h = omega (arith, sum-padded m [] (omega arith))
 sum-padded (suc m) (a ∷ l) h = ap (λ (k : ℕ). a + k) (sum-padded m l (omega arith))
 
-pub plan-is : (vs : List Survey) → 2 ≤ length vs → length vs ≤ 6 → All Accepts vs → planCause (record { k = length vs; sizes = padded 6 (surveySizes vs) }) (surveyCells vs) ≡ 0
-plan-is vs low high h =
+pub plan-is : (vs : List Survey) (margins : List ℕ) → 2 ≤ length vs → length vs ≤ 6 → ((j : ℕ) → (getD margins j 0 ≤ 50000) × (length vs ≤ j → getD margins j 0 ≡ 0)) → All Accepts vs → planCause (record { k = length vs; sizes = padded 6 (surveySizes vs); margins = margins }) (surveyCells vs) ≡ 0
+plan-is vs margins low high m h =
     let long = sizes-long vs in
     let cells = cells-are vs in
     let four = cells-long (allKept vs) in
     let whole : length (surveyCells vs) ≡ 4 * length (allKept vs) = sym (ap length cells) ∙ four in
-    plans .causes (record { k = length vs; sizes = padded 6 (surveySizes vs) }) (surveyCells vs) .none .1 (
+    plans .causes (record { k = length vs; sizes = padded 6 (surveySizes vs); margins = margins }) (surveyCells vs) .none .1 (
       (low, high),
       λ j. (small 6 j h, λ k. padded-zeros 6 (surveySizes vs) j (omega arith)),
+      m,
       omega (arith, sizes-are vs, sum-padded 6 (surveySizes vs) (omega arith)),
       λ i k. subst (λ (l : List ℤ). Ranged (rectAt l i)) cells (layer-in (allKept vs) (all-sound h) i (omega arith)),
     )

@@ -13,8 +13,8 @@ use Rattle.lists.specs.Lists.{All, none-left, _and_, upto, keep}
 use Rattle.lists.proofs.Tests.{both, and-true}
 use Rattle.lists.proofs.Lists.{all-getD}
 use Rattle.lists.proofs.Kept.{all-each, length-upto, getD-upto}
-use Rattle.decimal.specs.Stores.{Put}
-use Rattle.decimal.proofs.Stores.{Left, left-all, left-put, left-room, left-none}
+use Rattle.lists.specs.Stores.{Put}
+use Rattle.lists.proofs.Stores.{Left, left-all, left-put, left-room, left-none}
 use Rattle.survey.specs.declared.Corners.{Corners}
 use Rattle.survey.specs.declared.Strip.{Strip}
 use Rattle.survey.specs.Records.{cornersAt, records, coverOf, soundRecord, allSound, keptBy, kept, coverCells}
@@ -136,13 +136,6 @@ module _ (s : List Float) where
         left-none first 0 (layerOf across upward s) cells at (subst (λ (l : List Corners). Left first 0 (layerOf across upward s) cells at (coverCells (keeps l))) (rest-end i h) (f .left))
 
 -- ---- the cells of one record
-pub put-four : (buf : List ℤ) (i : ℕ) (a b c d : ℤ) → Put buf i (a ∷ b ∷ c ∷ d ∷ []) (set (set (set (set buf i a) (i + 1) b) (i + 2) c) (i + 3) d) (i + 4)
-put-four buf i a b c d =
-    let e₁ : i + 1 ≡ suc i = omega arith in
-    let e₂ : i + 2 ≡ suc (suc i) = omega arith in
-    let e₃ : i + 3 ≡ suc (suc (suc i)) = omega arith in
-    record { place = refl; stored = rw (e₁, e₂, e₃) }
-
 module _ (across upward : Strip) (c : Corners) where
   pub room-kept : (cells : List ℤ) (at : ℕ) → RecordFits across upward c cells at → keptBy across upward c ≡ true → at + 4 ≤ length cells
   room-kept cells at f e = let h = f .room in rw e at h

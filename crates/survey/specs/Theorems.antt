@@ -152,8 +152,8 @@ pub record Surveys : Type 0 where
   pub kept : (across upward : Strip) (corners : List Float) → SoundStops across → SoundStops upward → Recorded corners → (places : List ℕ) × KeptAt across upward corners places
   pub causes : (across upward : Strip) (corners : List Float) (room : ℕ) → CoverCauses across upward corners room
   pub accepted : (across upward : Strip) (corners : List Float) (cells : List ℤ) → coverCause across upward corners (length cells) ≡ 0 → Accepted across upward corners cells
-  -- two to six layers so made are a plan that no check refuses
-  pub plan : (vs : List Survey) → 2 ≤ length vs → length vs ≤ 6 → All Accepts vs → planCause (record { k = length vs; sizes = padded 6 (surveySizes vs) }) (surveyCells vs) ≡ 0
+  -- two to six layers so made are, with any margins in range, a plan that no check refuses
+  pub plan : (vs : List Survey) (margins : List ℕ) → 2 ≤ length vs → length vs ≤ 6 → ((j : ℕ) → (getD margins j 0 ≤ 50000) × (length vs ≤ j → getD margins j 0 ≡ 0)) → All Accepts vs → planCause (record { k = length vs; sizes = padded 6 (surveySizes vs); margins = margins }) (surveyCells vs) ≡ 0
   -- 01: "A refusal returns its number and 0 for all else", and the cells are as they were
   pub refused : (across upward : Strip) (corners : List Float) (cells : List ℤ) (n : ℕ) → coverCause across upward corners (length cells) ≡ suc n
       → (coverAnswer across upward corners (length cells) ≡ Refused (suc n)) × (coverAfter across upward corners cells ≡ cells)

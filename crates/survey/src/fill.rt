@@ -4,11 +4,11 @@ use crate::Strip;
 use crate::checks::cover;
 use crate::checks::record_at;
 use crate::keep::is_kept;
-use geometry::Rect;
+use plan::put_rect;
 ghost use mathlib.Core.List.{[], _∷_};
 ghost use Prim.Native.Nat.{_+_, _≤_};
 ghost use lib.ListN.{length};
-ghost use Rattle.decimal.specs.Stores.{Put};
+ghost use Rattle.lists.specs.Stores.{Put};
 ghost use Rattle.survey.specs.CoverCall.{layerOf};
 ghost use Rattle.survey.specs.Puts.{cellsOf, RecordFits, LayerFits};
 
@@ -37,20 +37,4 @@ fn put_if_kept(across: Strip, upward: Strip, c: Corners, cells: &mut [i32], at: 
         return put_rect(cells, at, cover(c));
     }
     at
-}
-
-// A rectangle's four cells from a place on; the place behind them.
-fn put_rect(cells: &mut [i32], at: usize, r: Rect) -> usize
-    requires { ⌜ at + 4 ≤ length (now cells) ⌝ }
-    ensures { λ v. ⌜ Put (now (cells .entry)) at (r .left ∷ r .bottom ∷ r .right ∷ r .top ∷ []) (now (cells .exit)) v ⌝ }
-{
-    let left = r.left;
-    let bottom = r.bottom;
-    let right = r.right;
-    let top = r.top;
-    cells[at] = left;
-    cells[at + 1] = bottom;
-    cells[at + 2] = right;
-    cells[at + 3] = top;
-    at + 4
 }

@@ -10,7 +10,7 @@ use Rattle.lists.specs.Lists.{sum, same}
 use Rattle.plan.specs.declared.Shape.{Shape}
 use Rattle.sweep.specs.declared.OrderAnswer.{OrderAnswer}
 use Rattle.sweep.specs.declared.OrderAnswer.the-variants.{Made, Refused}
-use Rattle.plan.specs.Plan.{count, planCause, Sound}
+use Rattle.plan.specs.Plan.{count, grown, planCause, Sound}
 use Rattle.sweep.specs.Sweep.{sweepOrder, makeCause, orderAnswer, orderNumber, orderAfter, orderCause}
 use Rattle.plan.proofs.Plan.{checked, count-is}
 use Rattle.plan.specs.Causes.{unless}
@@ -32,7 +32,7 @@ module _ (s : Shape) (cells : List ℤ) (order : List ℕ) where
     order-misfit h =
         let e = ne-eqb (length order) (sum (s .sizes)) (λ q. h (q ∙ sym (count-is s cells (checked s cells sound)))) in rw (sound .passed, e) (refl, (refl, refl))
 
-    pub order-made : (after : List ℕ) → length order ≡ count cells → after ≡ sweepOrder cells → Answered Made after
+    pub order-made : (after : List ℕ) → length order ≡ count cells → after ≡ sweepOrder (grown s cells) → Answered Made after
     unfolding makeCause
     order-made after h p =
         let e = eq-eqb (length order) (sum (s .sizes)) (h ∙ count-is s cells (checked s cells sound)) in rw (sound .passed, e) (refl, (refl, p))
@@ -44,6 +44,6 @@ module _ (s : Shape) (cells : List ℤ) (order : List ℕ) where
   checked-plan zero e h = absurd (h refl)
   checked-plan (suc n) e h = rw (← e)
 
-  pub checked-order : planCause s cells ≡ 0 → (t : Bool) → t ≡ same order (sweepOrder cells) → unless t 5 ≡ orderCause s cells order
+  pub checked-order : planCause s cells ≡ 0 → (t : Bool) → t ≡ same order (sweepOrder (grown s cells)) → unless t 5 ≡ orderCause s cells order
   unfolding orderCause
   checked-order e t h = rw (e, h)

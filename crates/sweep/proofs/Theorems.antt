@@ -1,7 +1,7 @@
 -- The promises on the sweep order and on the causes of its calls hold.
 use mathlib.Core.Path.{_≡_, refl}
 use mathlib.Core.List.{List}
-use Prim.Native.Nat.{ℕ}
+use Prim.Native.Nat.{ℕ, _<_}
 use native.Mathlib.Omega.{arith}
 use lib.IntN.{ℤ}
 use lib.Dec.{eqb}
@@ -11,10 +11,10 @@ use Rattle.lists.specs.Lists.{sum, same}
 use Rattle.lists.proofs.Tests.{tells}
 use Rattle.lists.proofs.Lists.{all-at, pairwise-with, ordered-unique}
 use Rattle.plan.specs.declared.Shape.{Shape}
-use Rattle.plan.specs.Plan.{planCause, count}
+use Rattle.plan.specs.Plan.{grown, planCause, count}
 use Rattle.sweep.specs.Sweep.{sweepOrder, orderCause, makeCause}
 use Rattle.sweep.specs.Theorems.{AllBelow, Swept, SweepHolds, OrderCauses, Sweeps, MakeCauses}
-use Rattle.plan.proofs.Plan.{check-passed, check-failed, check-others, plan-most, count-is, or-else-most, unless-most}
+use Rattle.plan.proofs.Plan.{check-passed, check-failed, check-others, plan-not, count-is}
 use Rattle.sweep.proofs.Sweep.{sweep-is, sweep-has, sweep-distinct}
 use Rattle.plan.proofs.Spots.{spot-number, rect-number}
 use Rattle.sweep.proofs.Spots.{earlier, earlier-asym}
@@ -46,12 +46,11 @@ order-causes : (s : Shape) (cells : List ℤ) (order : List ℕ) → OrderCauses
 unfolding orderCause
 order-causes s cells order =
     let plan = planCause s cells in
-    let t = same-tells order (sweepOrder cells) in
+    let t = same-tells order (sweepOrder (grown s cells)) in
     record {
       none = check-passed plan 4 (λ z. t);
-      five = check-failed plan 4 (plan-most s cells) (λ z. t);
-      earlier = λ m p l. check-others plan (same order (sweepOrder cells)) 5 m p (λ e. omega arith);
-      most = or-else-most plan _ 5 (omega (arith, plan-most s cells)) (unless-most (same order (sweepOrder cells)) 5);
+      five = check-failed plan 4 (plan-not s cells 5 (omega arith) (λ e. omega arith)) (λ z. t);
+      others = λ m p x. check-others plan (same order (sweepOrder (grown s cells))) 5 m p x;
     }
 
 make-causes : (s : Shape) (cells : List ℤ) (order : List ℕ) → MakeCauses s cells order
@@ -61,16 +60,19 @@ make-causes s cells order =
     let t = tells (eqb (length order) n) (eqb-true (length order) n) (eq-eqb (length order) n) in
     record {
       made = check-passed (planCause s cells) 7 (λ z. t);
-      eight = check-failed (planCause s cells) 7 (omega (arith, plan-most s cells)) (λ z. t);
-      earlier = λ m p l. check-others (planCause s cells) (eqb (length order) n) 8 m p (λ e. omega arith);
-      most = or-else-most (planCause s cells) _ 8 (omega (arith, plan-most s cells)) (unless-most (eqb (length order) n) 8);
+      eight = check-failed (planCause s cells) 7 (plan-not s cells 8 (omega arith) (λ e. omega arith)) (λ z. t);
+      others = λ m p x. check-others (planCause s cells) (eqb (length order) n) 8 m p x;
       filled = λ e. rw e;
       kept = λ m e. rw e;
     }
 
 -- the sweep order is not refused
-pub order-passes : (s : Shape) (cells : List ℤ) → planCause s cells ≡ 0 → orderCause s cells (sweepOrder cells) ≡ 0
-order-passes s cells e = order-causes s cells (sweepOrder cells) .none .1 (e, refl)
+pub order-passes : (s : Shape) (cells : List ℤ) → planCause s cells ≡ 0 → orderCause s cells (sweepOrder (grown s cells)) ≡ 0
+order-passes s cells e = order-causes s cells (sweepOrder (grown s cells)) .none .1 (e, refl)
+
+-- no number but 1 to 5 and 17 refuses an order
+pub order-not : (s : Shape) (cells : List ℤ) (order : List ℕ) (n : ℕ) → 5 < n → (n ≡ 17 → ⊥) → orderCause s cells order ≡ n → ⊥
+order-not s cells order n h x e = plan-not s cells n (omega arith) x (order-causes s cells order .others n (omega arith) (λ q. omega arith) .0 e)
 
 pub sweep-holding : Sweeps
 sweep-holding = record { sweep = sweep-holds; order = order-causes; make = make-causes }

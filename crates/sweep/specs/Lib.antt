@@ -1,3 +1,4 @@
 pub mod Sweep
 pub mod Theorems
 pub mod Merging
+pub mod Opening

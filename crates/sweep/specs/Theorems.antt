@@ -7,7 +7,7 @@ use lib.IntN.{ℤ}
 use lib.ListN.{length, getD, take}
 use Rattle.lists.specs.Lists.{Pairwise, Distinct, sum}
 use Rattle.plan.specs.declared.Shape.{Shape}
-use Rattle.plan.specs.Plan.{rectAt, count, layersOf, planCause}
+use Rattle.plan.specs.Plan.{rectAt, count, layersOf, grown, planCause}
 use Rattle.plan.specs.Frames.{Framed}
 use Rattle.plan.specs.Spots.{spotOf, Has, rectOf}
 use Rattle.sweep.specs.Sweep.{Earlier, sweepOrder, orderCause, makeCause, orderAfter}
@@ -36,21 +36,19 @@ pub record SweepHolds (ns : List ℕ) (cells : List ℤ) : Type 0 where
   -- ... and the only such list
   pub only : (l : List ℕ) → AllBelow (sum ns) l → Swept ns cells l → l ≡ sweepOrder cells
 
--- the causes of a plan and an order: those of the plan, and 5, "order buffer not the sweep order of n", where none of them applies
+-- the causes of a plan and an order: those of the plan, and 5, "order buffer not the sweep order of n" of the grown plan, where none of them applies
 pub record OrderCauses (s : Shape) (cells : List ℤ) (order : List ℕ) : Type 0 where
-  pub none : (orderCause s cells order ≡ 0) ↔ ((planCause s cells ≡ 0) × (order ≡ sweepOrder cells))
-  pub five : (orderCause s cells order ≡ 5) ↔ ((planCause s cells ≡ 0) × (order ≡ sweepOrder cells → ⊥))
-  pub earlier : (n : ℕ) → 0 < n → n < 5 → (orderCause s cells order ≡ n) ↔ (planCause s cells ≡ n)
-  pub most : orderCause s cells order ≤ 5
+  pub none : (orderCause s cells order ≡ 0) ↔ ((planCause s cells ≡ 0) × (order ≡ sweepOrder (grown s cells)))
+  pub five : (orderCause s cells order ≡ 5) ↔ ((planCause s cells ≡ 0) × (order ≡ sweepOrder (grown s cells) → ⊥))
+  pub others : (n : ℕ) → 0 < n → (n ≡ 5 → ⊥) → (orderCause s cells order ≡ n) ↔ (planCause s cells ≡ n)
 
 -- the order maker: its causes are those of the plan, and 8, "buffer not n cells", where none of them applies; what it leaves in the buffer
 pub record MakeCauses (s : Shape) (cells : List ℤ) (order : List ℕ) : Type 0 where
   pub made : (makeCause s cells order ≡ 0) ↔ ((planCause s cells ≡ 0) × (length order ≡ sum (s .sizes)))
   pub eight : (makeCause s cells order ≡ 8) ↔ ((planCause s cells ≡ 0) × (length order ≡ sum (s .sizes) → ⊥))
-  pub earlier : (n : ℕ) → 0 < n → n < 8 → (makeCause s cells order ≡ n) ↔ (planCause s cells ≡ n)
-  pub most : makeCause s cells order ≤ 8
+  pub others : (n : ℕ) → 0 < n → (n ≡ 8 → ⊥) → (makeCause s cells order ≡ n) ↔ (planCause s cells ≡ n)
   -- the buffer afterwards: the sweep order where none applies, else as it was
-  pub filled : makeCause s cells order ≡ 0 → orderAfter s cells order ≡ sweepOrder cells
+  pub filled : makeCause s cells order ≡ 0 → orderAfter s cells order ≡ sweepOrder (grown s cells)
   pub kept : (n : ℕ) → makeCause s cells order ≡ suc n → orderAfter s cells order ≡ order
 
 pub record Sweeps : Type 0 where

@@ -2,10 +2,17 @@
 mod order;
 
 use order::is_order;
+use plan::MOST_CELLS;
 use plan::Shape;
+use plan::grow_plan;
 use plan::plan_cause;
 ghost use mathlib.Core.Path.{_≡_};
-ghost use Rattle.sweep.specs.Sweep.{orderCause, makeCause, orderAnswer, orderNumber, orderAfter};
+ghost use Prim.Native.Nat.{_≤_};
+ghost use lib.ListN.{length};
+ghost use Rattle.plan.specs.Limits.{mostCells};
+ghost use Rattle.plan.specs.Plan.{count, grown, Sound};
+ghost use Rattle.sweep.specs.Sweep.{sweepOrder, orderCause, makeCause, orderAnswer, orderNumber, orderAfter};
+ghost use Rattle.sweep.specs.Opening.{Opened};
 
 // What the order maker answers.
 pub enum OrderAnswer {
@@ -26,17 +33,39 @@ pub fn make_order(shape: Shape, cells: &[i32], order: &mut [u32]) -> OrderAnswer
     if order.len() != cells.len() / 4 {
         return OrderAnswer::Refused(8);
     }
-    order::fill(cells, order);
+    fill_grown(shape, cells, order);
     OrderAnswer::Made
 }
 
-// The first of the causes 1 to 5 that applies to a plan and an order, or 0.
+// Makes the sweep order of a sound plan.
+fn fill_grown(shape: Shape, cells: &[i32], order: &mut [u32])
+    requires { ⌜ Sound shape (now cells) × (length (now order) ≡ count (now cells)) ⌝ }
+    ensures { λ _. ⌜ now (order .exit) ≡ sweepOrder (grown shape (now (cells .entry))) ⌝ }
+{
+    let mut run = [0i32; MOST_CELLS];
+    grow_plan(shape, cells, &mut run);
+    let n = cells.len();
+    order::fill(&run[..n], order);
+}
+
+// The first of the causes 1 to 5 and 17 that applies to a plan and an order, or 0.
 pub fn order_cause(shape: Shape, cells: &[i32], order: &[u32]) -> u32
     ensures { λ r. ⌜ r ≡ orderCause shape (now (cells .entry)) (now (order .entry)) ⌝ }
+{
+    let mut run = [0i32; MOST_CELLS];
+    open_plan(shape, cells, order, &mut run)
+}
+
+// The first of the causes 1 to 5 and 17 that applies to a plan and an order, or 0; the run then begins with the cells of the grown plan.
+pub fn open_plan(shape: Shape, cells: &[i32], order: &[u32], run: &mut [i32]) -> u32
+    requires { ⌜ mostCells ≤ length (now run) ⌝ }
+    ensures { λ r. ⌜ Opened shape (now (cells .entry)) (now (order .entry)) r (now (run .exit)) ⌝ }
 {
     let cause = plan_cause(shape, cells);
     if cause != 0 {
         return cause;
     }
-    if is_order(cells, order) { 0 } else { 5 }
+    grow_plan(shape, cells, run);
+    let n = cells.len();
+    if is_order(&run[..n], order) { 0 } else { 5 }
 }

@@ -8,7 +8,7 @@ use lib.ListN.{length}
 use Rattle.lists.proofs.Tests.{clash}
 use Rattle.totals.specs.declared.Total.{Total}
 use Rattle.plan.specs.declared.Shape.{Shape}
-use Rattle.plan.specs.Plan.{layers, sizesOf, Typed, Sound}
+use Rattle.plan.specs.Plan.{layers, sizesOf, Typed, Sound, grown}
 use Rattle.plan.proofs.Plan.{or-else-zero}
 use Rattle.sweep.specs.Sweep.{orderCause}
 use Rattle.join.specs.Table.{tableOf}
@@ -29,7 +29,7 @@ abbrev pub Reported : Shape → List ℤ → (order table : List ℕ) → Crossi
 Reported s cells order table r after =
     (r ≡ crossingCall s cells order table) × (after ≡ crossingTable s cells order table)
 
--- a refusal by the checks 1 to 4, 15 and 16
+-- a refusal by the checks 1 to 4, 17, 15 and 16
 pub report-refused : (s : Shape) (cells : List ℤ) (order table : List ℕ) (n : ℕ) → n ≡ crossingCause s cells → (n ≡ 0 → ⊥) → (r : CrossingReport) → r ≡ refusedReport n → Reported s cells order table r table
 unfolding crossingCall crossingTable crossingRunCause
 report-refused s cells order table zero e h r q = absurd (h refl)
@@ -66,14 +66,14 @@ module _ (s : Shape) (cells : List ℤ) (run : Run) (table : List ℕ) (h : RanI
   accepted (suc c) z = clash refl (ap is-done (sym e ∙ h .answer) ∙ rw z)
 
   -- its table has the rows of the join
-  done-read : rowsIn (s .k) rows table ≡ tableOf (sizesOf s) cells
+  done-read : rowsIn (s .k) rows table ≡ tableOf (sizesOf s) (grown s cells)
   unfolding runCause
   done-read =
       let z = accepted (runCause s cells (h .order) (h .lent)) refl in
       let r = run-holds s cells (h .order) (h .lent) (h .sound) (or-else-zero (orderCause s cells (h .order)) _ z .0) in
-      rw (h .filled) (subst (λ (v : Run). rowsIn (s .k) (runValues v .rows) (runTable s cells (h .order) (h .lent)) ≡ tableOf (sizesOf s) cells) (sym (h .answer) ∙ e) (r .rows z))
+      rw (h .filled) (subst (λ (v : Run). rowsIn (s .k) (runValues v .rows) (runTable s cells (h .order) (h .lent)) ≡ tableOf (sizesOf s) (grown s cells)) (sym (h .answer) ∙ e) (r .rows z))
 
-  pub done-rows : TableRows (s .sizes) (s .k) cells table rows
+  pub done-rows : TableRows (s .sizes) (s .k) (grown s cells) table rows
   done-rows = table-rows s cells table rows (h .sound) done-read
 
   pub done-three : 3 ≤ s .k

@@ -12,8 +12,8 @@ use Rattle.lists.proofs.Lists.{all-map, all-of-mem}
 use Rattle.lists.proofs.Kept.{keep-same, length-upto}
 use Rattle.plan.specs.declared.Shape.{Shape}
 use Rattle.plan.specs.Causes.{_orElse_}
-use Rattle.plan.specs.Plan.{layers, sizesOf, planCause, Typed}
-use Rattle.plan.proofs.Plan.{or-else-zero, check-others, plan-most, checked}
+use Rattle.plan.specs.Plan.{layers, sizesOf, planCause, Typed, grown}
+use Rattle.plan.proofs.Plan.{or-else-zero, check-others, plan-not, checked}
 use Rattle.sweep.specs.Sweep.{sweepOrder, orderCause}
 use Rattle.join.specs.Table.{tableOf}
 use Rattle.crossings.specs.Crossings.{classIn}
@@ -31,15 +31,15 @@ use Rattle.tally.proofs.Counting.{counts-at, counts-sum}
 -- ---- the counts
 module _ (s : Shape) (cells : List ℤ) (typed : Typed s) (passed : crossingCause s cells ≡ 0) where
   -- what the class call says of a row of the table
-  called : All (λ row. (classIn (layers s cells) row ≡ classValues (classCall s cells row) .class) × (classIn (layers s cells) row < 17)) (tableOf (sizesOf s) cells)
-  called = all-of-mem (tableOf (sizesOf s) cells) (λ row m.
+  called : All (λ row. (classIn (layers s cells) row ≡ classValues (classCall s cells row) .class) × (classIn (layers s cells) row < 17)) (tableOf (sizesOf s) (grown s cells))
+  called = all-of-mem (tableOf (sizesOf s) (grown s cells)) (λ row m.
       let h = Class.crossings .classes s cells typed passed .row row m in
       (sym (ap (λ (a : ClassAnswer). classValues a .class) (h .0)), omega (arith, h .1 .most, h .2, checked s cells (cause-sound s cells typed passed) .high)))
 
-  counts : Counts s cells (classCounts (layers s cells) (tableOf (sizesOf s) cells))
+  counts : Counts s cells (classCounts (layers s cells) (tableOf (sizesOf s) (grown s cells)))
   counts = record {
-    seventeen = length-upto (countOf (layers s cells) (tableOf (sizesOf s) cells)) 0 17;
-    each = λ c l. counts-at (layers s cells) (tableOf (sizesOf s) cells) c l ∙ ap length (keep-same _ _ (all-map (λ row h. ap (λ (n : ℕ). eqb n c) (h .0)) called));
+    seventeen = length-upto (countOf (layers s cells) (tableOf (sizesOf s) (grown s cells))) 0 17;
+    each = λ c l. counts-at (layers s cells) (tableOf (sizesOf s) (grown s cells)) c l ∙ ap length (keep-same _ _ (all-map (λ row h. ap (λ (n : ℕ). eqb n c) (h .0)) called));
     sum = counts-sum (layers s cells) (all-map (λ row h. h .1) called);
   }
 
@@ -52,7 +52,7 @@ module _ (s : Shape) (cells : List ℤ) (order table : List ℕ) (typed : Typed 
     where
       go : (c : ℕ) → crossingCause s cells ≡ c → (c orElse runCause s cells order table) ≡ n → (crossingCause s cells ≡ 0) × (runCause s cells order table ≡ n)
       go zero q e = (q, e)
-      go (suc c) q e = absurd (omega (arith, plan-most s cells, Class.crossings .causes s cells typed .earlier n (omega arith) b .0 (q ∙ e)))
+      go (suc c) q e = absurd (plan-not s cells n a (λ z. omega arith) (Class.crossings .causes s cells typed .others n (omega arith) (λ z. omega arith) (λ z. omega arith) .0 (q ∙ e)))
 
   five : (crossingRunCause s cells order table ≡ 5) ↔ ((crossingCause s cells ≡ 0) × (orderCause s cells order ≡ 5))
   unfolding runCause
@@ -72,7 +72,7 @@ module _ (s : Shape) (cells : List ℤ) (order table : List ℕ) (typed : Typed 
         λ e.
             let o = overlay s cells in
             let j = check-others (orderCause s cells order) (leb (length (o .table)) (room o table)) 7 n p y .0 e in
-            let i = check-others (planCause s cells) (same order (sweepOrder cells)) 5 n p x .0 j in
+            let i = check-others (planCause s cells) (same order (sweepOrder (grown s cells))) 5 n p x .0 j in
             absurd (omega (arith, cause-sound s cells typed q .passed)),
         λ e. absurd (omega arith),
       )

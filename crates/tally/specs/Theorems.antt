@@ -8,7 +8,7 @@ use lib.Dec.{eqb}
 use lib.ListN.{length, getD}
 use Rattle.lists.specs.Lists.{sum, keep}
 use Rattle.plan.specs.declared.Shape.{Shape}
-use Rattle.plan.specs.Plan.{sizesOf, Typed}
+use Rattle.plan.specs.Plan.{sizesOf, Typed, grown}
 use Rattle.sweep.specs.Sweep.{orderCause}
 use Rattle.join.specs.Table.{tableOf}
 use Rattle.crossings.specs.ClassCall.{crossingCause, classCall, classValues}
@@ -18,9 +18,9 @@ use Rattle.paging.specs.Calls.{runCause, runCall, runTable, crossingRunCause, c
 -- the counts of classes 0 to 16: of each, how many rows of the table have it by the class call
 pub record Counts (s : Shape) (cells : List ℤ) (counts : List ℕ) : Type 0 where
   pub seventeen : length counts ≡ 17
-  pub each : (class : ℕ) → class < 17 → getD counts class 0 ≡ length (keep (λ row. eqb (classValues (classCall s cells row) .class) class) (tableOf (sizesOf s) cells))
+  pub each : (class : ℕ) → class < 17 → getD counts class 0 ≡ length (keep (λ row. eqb (classValues (classCall s cells row) .class) class) (tableOf (sizesOf s) (grown s cells)))
   -- 02: "The counts add up to the rows of the join."
-  pub sum : sum counts ≡ length (tableOf (sizesOf s) cells)
+  pub sum : sum counts ≡ length (tableOf (sizesOf s) (grown s cells))
 
 pub record CrossingReports (s : Shape) (cells : List ℤ) (order table : List ℕ) : Type 0 where
   -- each cause applies in exactly the stated case: the class call's first, then the whole run's

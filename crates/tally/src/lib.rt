@@ -4,12 +4,14 @@ use crossings::row_class;
 use pager::run_all;
 use paging::CrossingReport;
 use paging::Run;
+use plan::MOST_CELLS;
 use plan::Shape;
+use plan::grow_plan;
 use rows::row_at;
 ghost use mathlib.Core.Path.{_≡_};
 ghost use Prim.Native.Nat.{_≤_};
 ghost use lib.ListN.{take};
-ghost use Rattle.plan.specs.Plan.{layersOf};
+ghost use Rattle.plan.specs.Plan.{layersOf, grown, layers, Sound};
 ghost use Rattle.crossings.specs.ClassCall.{classCounts};
 ghost use Rattle.paging.specs.Theorems.{rowsIn};
 ghost use Rattle.paging.specs.TableRows.{TableRows};
@@ -51,13 +53,25 @@ fn report_on(run: Run, shape: Shape, cells: &[i32], table: &[u32]) -> CrossingRe
     match run {
         Run::Refused(cause) => refused_report(cause),
         Run::Done(rows, probes, area) => {
-            let counts = count_classes(&shape.sizes, shape.k as usize, cells, table, rows);
+            let counts = count_grown(shape, cells, table, rows);
             CrossingReport {
                 run: Run::Done(rows, probes, area),
                 counts,
             }
         }
     }
+}
+
+// How many of the first n rows of a sound plan's table fall in each class.
+fn count_grown(shape: Shape, cells: &[i32], table: &[u32], n: u32) -> [u32; 17]
+    requires { ⌜ Sound shape (now cells) × TableRows (shape .sizes) (shape .k) (grown shape (now cells)) (now table) n ⌝ }
+    requires { ⌜ 3 ≤ shape .k ⌝ }
+    ensures { λ r. ⌜ r ≡ classCounts (layers shape (now (cells .entry))) (rowsIn (shape .k) n (now (table .entry))) ⌝ }
+{
+    let mut run = [0i32; MOST_CELLS];
+    grow_plan(shape, cells, &mut run);
+    let m = cells.len();
+    count_classes(&shape.sizes, shape.k as usize, &run[..m], table, n)
 }
 
 // How many of the first n rows of a table fall in each class.

@@ -3,13 +3,13 @@ use mathlib.Core.Path.{_≡_, refl, ap, _∙_, subst}
 use mathlib.Core.List.{List, [], _∷_, _++_}
 use mathlib.Core.Option.{Option, none, some}
 use mathlib.Core.Bool.{true}
-use Prim.Native.Nat.{ℕ, suc, _+_, _≤_, _<_}
+use Prim.Native.Nat.{ℕ, _+_, _≤_, _<_}
 use native.Mathlib.Omega.{arith}
 use lib.IntN.{ℤ}
-use lib.ListN.{length, set, drop, length-drop, drop-of-length-le}
+use lib.ListN.{length, drop, length-drop, drop-of-length-le}
 use Rattle.lists.proofs.Tests.{clash}
-use Rattle.decimal.specs.Stores.{Put}
-use Rattle.decimal.proofs.Stores.{Left, left-all, left-put, left-none, left-room}
+use Rattle.lists.specs.Stores.{Put}
+use Rattle.lists.proofs.Stores.{Left, left-all, left-put, left-none, left-room}
 use Rattle.line.specs.declared.Line.{Line}
 use Rattle.line.specs.declared.Line.the-variants.{Plan, Layer, Rectangle}
 use Rattle.line.specs.Parsing.{next, line}
@@ -20,17 +20,10 @@ use Rattle.text.specs.Filling.{restCells, LinesFit}
 use Rattle.text.proofs.Parsing.{first-then, first-none}
 use Rattle.lists.specs.Lists.{isSome, listIn}
 
-pub put-four : (buf : List ℤ) (i : ℕ) (a b c d : ℤ) → Put buf i (a ∷ b ∷ c ∷ d ∷ []) (set (set (set (set buf i a) (i + 1) b) (i + 2) c) (i + 3) d) (i + 4)
-put-four buf i a b c d =
-    let e₁ : i + 1 ≡ suc i = omega arith in
-    let e₂ : i + 2 ≡ suc (suc i) = omega arith in
-    let e₃ : i + 3 ≡ suc (suc (suc i)) = omega arith in
-    record { place = refl; stored = rw (e₁, e₂, e₃) }
-
 -- the cells of a line, and of those behind it
 cells-first : (l : Line) (ls : List Line) → cellsIn (l ∷ ls) ≡ cellsIn (l ∷ []) ++ cellsIn ls
 cells-first (Plan k) ls = refl
-cells-first (Layer n) ls = refl
+cells-first (Layer n m) ls = refl
 cells-first (Rectangle r) ls = refl
 
 pub record Filling (s : List ℕ) (start : ℕ) (first cells : List ℤ) (at i : ℕ) : Type 0 where

@@ -1,5 +1,5 @@
 -- Laws of the reader's decision: what the tally behind the PLAN line says of the whole text.
-use mathlib.Core.Path.{_≡_, refl, sym, ap, _∙_}
+use mathlib.Core.Path.{_≡_, refl, sym, ap, ap₂, _∙_}
 use mathlib.Core.List.{List, [], _∷_}
 use mathlib.Core.Option.{Option, none, some}
 use mathlib.Core.Bool.{Bool, true, false, cond}
@@ -57,7 +57,7 @@ refused-form s room cause d n e q = decided-no s room cause d n (refused-by room
 unformed-lines : (t : Tally) (ls : List Line) → allInner ls ≡ false → addLines t ls ≡ unformed
 unformed-lines t [] e = clash refl e
 unformed-lines t (Plan k ∷ ls) e = refl
-unformed-lines t (Layer n ∷ ls) e = unformed-lines (addLayer t n) ls e
+unformed-lines t (Layer n m ∷ ls) e = unformed-lines (addLayer t n m) ls e
 unformed-lines t (Rectangle r ∷ ls) e = unformed-lines (addRect t r) ls e
 
 -- the lines of a text that starts with a PLAN line
@@ -72,8 +72,8 @@ lines-none (b ∷ s) e = rw (first-none (b ∷ s) (omega arith) e)
 
 headless : (l : Line) (o : Option (List Line)) → inner l ≡ true → only headed (next o (λ ls. some (l ∷ ls))) ≡ none
 headless (Plan k) o h = clash h refl
-headless (Layer n) none h = refl
-headless (Layer n) (some ls) h = refl
+headless (Layer n m) none h = refl
+headless (Layer n m) (some ls) h = refl
 headless (Rectangle r) none h = refl
 headless (Rectangle r) (some ls) h = refl
 
@@ -91,7 +91,7 @@ pub record Accepted (s : List ℕ) (k : ℤ) (i : ℕ) (t : Tally) : Type 0 wher
   pub sign : T (nonNeg k)
   pub layers : natAbs k ≤ 6
   pub few : t .rects ≤ 3072
-  pub shape : record { k = natAbs k; sizes = t .sizes } ≡ textShape s
+  pub shape : record { k = natAbs k; sizes = t .sizes; margins = t .margins } ≡ textShape s
   pub cells : length (textCells s) ≡ 4 * t .rects
   pub cause : (room : ℕ) → readCause room s ≡ unless (leb (4 * t .rects) room) 11
   pub formed : isSome (allLines (drop i s)) ≡ true
@@ -166,7 +166,7 @@ module _ (s : List ℕ) (k : ℤ) (i : ℕ) (p : Line-at s 0 (Plan k) i) where
         sign = rw (b .sign) tt;
         layers = rw (b .sign) (a .high);
         few = omega (arith, f .rects, f .layers);
-        shape = rw (b .whole) (ap (λ (ns : List ℕ). record { k = natAbs k; sizes = ns }) (d .sizes));
+        shape = rw (b .whole) (ap₂ (λ (ns ms : List ℕ). record { k = natAbs k; sizes = ns; margins = ms }) (d .sizes) (d .margins));
         cells = rw (b .whole) n;
         cause = λ room. rw (b .whole, b .right, n);
         formed = rw (b .reads);
@@ -178,7 +178,7 @@ module _ (s : List ℕ) (k : ℤ) (i room : ℕ) (t : Tally) (a : Accepted s k i
   pub refused-room : (d : Decision) → room < 4 * t .rects → d ≡ refusedBy 11 → Decided s room d
   refused-room d h q = decided-no s room 11 d (λ z. omega arith) (a .cause room ∙ rw (lt-leb (4 * t .rects) room h)) q
 
-  pub taken : i ≤ length s → 4 * t .rects ≤ room → Decided s room (record { reading = record { number = 0; shape = record { k = natAbs k; sizes = t .sizes } }; next = i })
+  pub taken : i ≤ length s → 4 * t .rects ≤ room → Decided s room (record { reading = record { number = 0; shape = record { k = natAbs k; sizes = t .sizes; margins = t .margins } }; next = i })
   taken j h =
       let e : readCause room s ≡ 0 = a .cause room ∙ rw (le-leb (4 * t .rects) room h) in
       record {

@@ -1,5 +1,5 @@
 -- Laws of the lengths of RECT lines and of LAYER lines, from a place on.
-use mathlib.Core.Path.{_≡_, refl, ap, _∙_}
+use mathlib.Core.Path.{_≡_, refl, ap, ap₂, _∙_}
 use mathlib.Core.List.{List, [], _∷_}
 use mathlib.Core.Bool.{true}
 use Prim.Native.Nat.{ℕ, zero, suc, _+_, _*_, _≤_, _<_}
@@ -46,9 +46,10 @@ rects-few (suc n) (a ∷ b ∷ c ∷ d ∷ cells) e =
     let r : Rect = record { left = a; bottom = b; right = c; top = d } in
     omega (arith, spell-length (Rectangle r) (spell (rectLines cells)), rect-most r, rects-few n cells (omega arith))
 
-pub layers-few : (ns : List ℕ) → layersLength ns ≤ 27 * length ns
-layers-few [] = omega arith
-layers-few (n ∷ ns) = omega (arith, layer-most n, layers-few ns)
+pub layers-few : (ns ms : List ℕ) → layersLength ns ms ≤ 48 * length ns
+layers-few [] ms = omega arith
+layers-few (n ∷ ns) [] = omega arith
+layers-few (n ∷ ns) (m ∷ ms) = omega (arith, layer-most n m, layers-few ns ms)
 
 -- ---- rectangle by rectangle
 pub record Measuring (cells : List ℤ) (size p : ℕ) : Type 0 where
@@ -80,23 +81,28 @@ pub measuring-end : (cells : List ℤ) (size p : ℕ) → length cells ≤ 4 * p
 measuring-end cells size p h m = omega (arith, m .gives, ap (λ (ls : List Line). length (spell ls)) (rects-none p cells h))
 
 -- ---- layer by layer
--- the sizes from j on are left to be measured
-pub record Layering (ns : List ℕ) (length₀ j : ℕ) : Type 0 where
+-- the sizes and margins from j on are left to be measured
+pub record Layering (ns ms : List ℕ) (length₀ j : ℕ) : Type 0 where
   pub within : j ≤ length ns
-  pub gives : length₀ + layersLength (drop j ns) ≡ layersLength ns
+  pub beside : length ms ≡ length ns
+  pub gives : length₀ + layersLength (drop j ns) (drop j ms) ≡ layersLength ns ms
 
-pub layering-start : (ns : List ℕ) → Layering ns 0 0
-layering-start ns = record { within = omega arith; gives = omega arith }
+pub layering-start : (ns ms : List ℕ) → length ms ≡ length ns → Layering ns ms 0 0
+layering-start ns ms b = record { within = omega arith; beside = b; gives = omega arith }
 
-module _ (ns : List ℕ) (length₀ j : ℕ) (l : Layering ns length₀ j) (h : j < length ns) where
-  next-layer : layersLength (drop j ns) ≡ length (spellTo (Layer (pos (getD ns j 0))) []) + layersLength (drop (j + 1) ns)
-  next-layer = ap layersLength (at-byte ns j h)
+module _ (ns ms : List ℕ) (length₀ j : ℕ) (l : Layering ns ms length₀ j) (h : j < length ns) where
+  -- the length of the next line
+  abbrev long : ℕ
+  long = length (spellTo (Layer (pos (getD ns j 0)) (pos (getD ms j 0))) [])
 
-  pub layering-few : length₀ + length (spellTo (Layer (pos (getD ns j 0))) []) ≤ 27 * length ns
-  layering-few = omega (arith, l .gives, next-layer, layers-few ns)
+  next-layer : layersLength (drop j ns) (drop j ms) ≡ long + layersLength (drop (j + 1) ns) (drop (j + 1) ms)
+  next-layer = ap₂ layersLength (at-byte ns j h) (at-byte ms j (omega (arith, l .beside)))
 
-  pub layering-more : Layering ns (length₀ + length (spellTo (Layer (pos (getD ns j 0))) [])) (j + 1)
-  layering-more = record { within = omega arith; gives = omega (arith, l .gives, next-layer) }
+  pub layering-few : length₀ + long ≤ 48 * length ns
+  layering-few = omega (arith, l .gives, next-layer, layers-few ns ms)
 
-pub layering-end : (ns : List ℕ) (length₀ j : ℕ) → length ns ≤ j → Layering ns length₀ j → length₀ ≡ layersLength ns
-layering-end ns length₀ j h l = omega (arith, l .gives, ap layersLength (drop-of-length-le ns h))
+  pub layering-more : Layering ns ms (length₀ + long) (j + 1)
+  layering-more = record { within = omega arith; beside = l .beside; gives = omega (arith, l .gives, next-layer) }
+
+pub layering-end : (ns ms : List ℕ) (length₀ j : ℕ) → length ns ≤ j → Layering ns ms length₀ j → length₀ ≡ layersLength ns ms
+layering-end ns ms length₀ j h l = omega (arith, l .gives, ap (λ (ks : List ℕ). layersLength ks (drop j ms)) (drop-of-length-le ns h))

@@ -1,6 +1,6 @@
 -- Lines are read from their spelling, and whatever is read was spelled so.
-use mathlib.Core.Path.{_≡_, refl, ap, _∙_, subst}
-use mathlib.Core.List.{List, [], _∷_}
+use mathlib.Core.Path.{_≡_, refl, sym, ap, _∙_, subst}
+use mathlib.Core.List.{List, [], _∷_, _++_}
 use mathlib.Core.Option.{Option, none, some, Option·some-injective, Option·none-ne-some}
 use mathlib.Core.Bool.{Bool, true, false, cond}
 use Prim.Native.Nat.{ℕ, zero, suc, _≤_, _<_}
@@ -16,11 +16,12 @@ use Rattle.text.specs.Spelling.{spell, headed, allShort}
 use Rattle.line.proofs.Lines.{next-some, line-reads, line-spelled, longer, shorter}
 use Rattle.line.specs.Parsing.{next, line}
 use Rattle.text.specs.Parsing.{linesBy, linesIn, allLines, linesOf}
+use Rattle.text.proofs.Spelling.{line-then}
 
 first-line : (g : List ℕ → Option (List Line)) (l : Line) (r : List ℕ)
     → linesBy g (spellTo l r) ≡ next (line (spellTo l r)) (λ p. next (g (p .1)) (λ ls. some (p .0 ∷ ls)))
 first-line g (Plan k) r = refl
-first-line g (Layer n) r = refl
+first-line g (Layer n m) r = refl
 first-line g (Rectangle b) r = refl
 
 lines-read : (ls : List Line) (f : ℕ) → allShort ls ≡ true → length ls ≤ f → linesIn f (spell ls) ≡ some ls
@@ -106,3 +107,11 @@ first-then (b ∷ t) p e =
 pub first-none : (t : List ℕ) → 0 < length t → line t ≡ none → allLines t ≡ none
 first-none [] h e = absurd (omega arith)
 first-none (b ∷ t) h e = rw e
+
+-- there are none where none are behind whole lines
+pub none-behind : (ls : List Line) (r : List ℕ) → allShort ls ≡ true → allLines r ≡ none → allLines (spell ls ++ r) ≡ none
+none-behind [] r h e = e
+none-behind (l ∷ ls) r h e =
+    let s = both (shortLine l) (allShort ls) h in
+    let f = first-then (spellTo l (spell ls ++ r)) (l, spell ls ++ r) (line-reads l (spell ls ++ r) (s .0)) in
+    sym (ap allLines (line-then l (spell ls) r)) ∙ f ∙ ap (λ (q : Option (List Line)). next q (λ ms. some (l ∷ ms))) (none-behind ls r (s .1) e)

@@ -3,19 +3,20 @@ use mathlib.Core.Path.{_≡_, refl, sym, ap, _∙_, subst}
 use mathlib.Core.List.{List, [], _∷_, _++_, append-assoc}
 use Prim.Native.Nat.{ℕ, _+_, _≤_}
 use lib.ListN.{length}
-use Rattle.decimal.specs.Stores.{Put}
-use Rattle.decimal.proofs.Stores.{Joined, Left, left-put, left-room}
+use Rattle.lists.specs.Stores.{Put}
+use Rattle.lists.proofs.Stores.{Joined, Left, left-put, left-room}
 use Rattle.line.specs.declared.Line.{Line}
 use Rattle.line.specs.Lines.{spellTo}
 use Rattle.line.proofs.Lines.{spell-front}
 use Rattle.text.specs.Spelling.{spell}
 
+-- a line in front of bytes, and more bytes behind them
+pub line-then : (l : Line) (a b : List ℕ) → spellTo l (a ++ b) ≡ spellTo l a ++ b
+line-then l a b = spell-front l (a ++ b) ∙ (sym (append-assoc (spellTo l []) a b) ∙ ap (λ (r : List ℕ). r ++ b) (sym (spell-front l a)))
+
 pub spell-++ : (ls ms : List Line) → spell (ls ++ ms) ≡ spell ls ++ spell ms
 spell-++ [] ms = refl
-spell-++ (l ∷ ls) ms =
-    ap (spellTo l) (spell-++ ls ms)
-    ∙ (spell-front l (spell ls ++ spell ms)
-    ∙ (sym (append-assoc (spellTo l []) (spell ls) (spell ms)) ∙ ap (λ (r : List ℕ). r ++ spell ms) (sym (spell-front l (spell ls)))))
+spell-++ (l ∷ ls) ms = ap (spellTo l) (spell-++ ls ms) ∙ line-then l (spell ls) (spell ms)
 
 pub lines-joined : (ls ms : List Line) → Joined (spell ls) (spell ms) (spell (ls ++ ms))
 lines-joined ls ms = record { joins = sym (spell-++ ls ms) }

@@ -34,19 +34,20 @@ rects-++ (suc n) (a ∷ b ∷ c ∷ []) back e = absurd (omega arith)
 rects-++ (suc n) (a ∷ b ∷ c ∷ d ∷ front) back e =
     ap (λ (ls : List Line). Rectangle (record { left = a; bottom = b; right = c; top = d }) ∷ ls) (rects-++ n front back (omega arith))
 
-layers-length : (ns : List ℕ) (cells : List ℤ) → length cells ≡ 4 * sum ns → length (spell (layerLines ns cells)) ≡ layersLength ns + length (spell (rectLines cells))
-layers-length [] [] e = refl
-layers-length [] (a ∷ cells) e = absurd (omega arith)
-layers-length (n ∷ ns) cells e =
+layers-length : (ns ms : List ℕ) (cells : List ℤ) → length ms ≡ length ns → length cells ≡ 4 * sum ns → length (spell (layerLines ns ms cells)) ≡ layersLength ns ms + length (spell (rectLines cells))
+layers-length [] ms [] b e = refl
+layers-length [] ms (a ∷ cells) b e = absurd (omega arith)
+layers-length (n ∷ ns) [] cells b e = absurd (omega arith)
+layers-length (n ∷ ns) (m ∷ ms) cells b e =
     let front = take (4 * n) cells in
     let back = drop (4 * n) cells in
     let r : rectLines cells ≡ rectLines front ++ rectLines back = sym (ap rectLines (take-append-drop (4 * n) cells)) ∙ rects-++ n front back (length-take-le (4 * n) cells (omega arith)) in
     omega (
       arith,
-      spell-length (Layer (pos n)) (spell (rectLines front ++ layerLines ns back)),
-      ap length (spell-++ (rectLines front) (layerLines ns back)),
-      length-append (spell (rectLines front)) (spell (layerLines ns back)),
-      layers-length ns back (omega (arith, length-drop (4 * n) cells)),
+      spell-length (Layer (pos n) (pos m)) (spell (rectLines front ++ layerLines ns ms back)),
+      ap length (spell-++ (rectLines front) (layerLines ns ms back)),
+      length-append (spell (rectLines front)) (spell (layerLines ns ms back)),
+      layers-length ns ms back (omega arith) (omega (arith, length-drop (4 * n) cells)),
       ap (λ (ls : List Line). length (spell ls)) r,
       ap length (spell-++ (rectLines front) (rectLines back)),
       length-append (spell (rectLines front)) (spell (rectLines back)),
@@ -68,9 +69,9 @@ pub record Measured (s : Shape) (cells : List ℤ) : Type 0 where
   pub whole : length cells ≡ 4 * count cells
   pub few : count cells ≤ 3072
   pub short : allShort (rectLines cells) ≡ true
-  pub layers : layersLength (sizesOf s) ≤ 162
+  pub layers : layersLength (sizesOf s) (take (s .k) (s .margins)) ≤ 288
   pub rects : length (spell (rectLines cells)) ≤ 285696
-  pub text : length (textOf s cells) ≡ length (spellTo (Plan (pos (s .k))) []) + layersLength (sizesOf s) + length (spell (rectLines cells))
+  pub text : length (textOf s cells) ≡ length (spellTo (Plan (pos (s .k))) []) + layersLength (sizesOf s) (take (s .k) (s .margins)) + length (spell (rectLines cells))
 
 pub measured : (s : Shape) (cells : List ℤ) → Sound s cells → Measured s cells
 unfolding textOf planLines
@@ -78,11 +79,14 @@ measured s cells h =
     let c = checked s cells h in
     let n = few s cells h in
     let w : length cells ≡ 4 * count cells = omega (arith, c .whole) in
+    let ms = take (s .k) (s .margins) in
+    let j = length-take-le (s .k) (s .sizes) (omega (arith, c .high, h .typed .sizes)) in
+    let k = length-take-le (s .k) (s .margins) (omega (arith, c .high, h .typed .margins)) in
     record {
       whole = w;
       few = n;
       short = rects-short (count cells) cells w (c .ranged);
-      layers = omega (arith, layers-few (sizesOf s), length-take-le (s .k) (s .sizes) (omega (arith, c .high, h .typed .sizes)), c .high);
+      layers = omega (arith, layers-few (sizesOf s) ms, j, c .high);
       rects = omega (arith, rects-few (count cells) cells w);
-      text = omega (arith, spell-length (Plan (pos (s .k))) (spell (layerLines (sizesOf s) cells)), layers-length (sizesOf s) cells (omega (arith, c .whole, front-sum s cells c)));
+      text = omega (arith, spell-length (Plan (pos (s .k))) (spell (layerLines (sizesOf s) ms cells)), layers-length (sizesOf s) ms cells (omega (arith, j, k)) (omega (arith, c .whole, front-sum s cells c)));
     }

@@ -1,6 +1,6 @@
 -- Plan texts are read back, only they are accepted, and "well formed" is what 01 says.
-use mathlib.Core.Path.{_≡_, refl, sym, ap, _∙_}
-use mathlib.Core.List.{List, [], _∷_}
+use mathlib.Core.Path.{_≡_, refl, sym, ap, ap₂, _∙_}
+use mathlib.Core.List.{List, [], _∷_, _++_}
 use mathlib.Core.Option.{Option, none, some, Option·some-injective}
 use mathlib.Core.Logic.{_↔_}
 use mathlib.Core.Bool.{Bool, true, false, _&&_}
@@ -8,25 +8,31 @@ use Prim.Native.Nat.{ℕ, zero, suc, _≤_, _<_}
 use native.Mathlib.Omega.{arith}
 use lib.Dec.{eqb, leb}
 use lib.IntN.{ℤ, pos, negsuc}
+use lib.Signed.{_≤ℤ_}
 use lib.ListN.{length, take}
 use lib.Seq.{take-append-seam, drop-append-seam}
 use borrow.Author.Tests.{eqb-true, le-leb, lt-leb, leb-true, leb-false}
 use Rattle.lists.proofs.Tests.{clash, both, le-tells}
 use Rattle.lists.specs.Lists.{padded, isSome}
+use Rattle.geometry.proofs.Integers.{zarith}
 use Rattle.plan.specs.declared.Shape.{Shape}
 use Rattle.plan.specs.Causes.{unless, _orElse_}
 use Rattle.plan.specs.Plan.{planCause, Sound}
-use Rattle.plan.proofs.Plan.{checked, unless-zero, plan-most, check-failed, check-others}
+use Rattle.plan.proofs.Plan.{checked, unless-zero, plan-not, check-failed, check-others}
+use Rattle.decimal.specs.Numerals.{short}
 use Rattle.line.specs.declared.Line.{Line}
 use Rattle.line.specs.declared.Line.the-variants.{Plan, Layer, Rectangle}
-use Rattle.text.specs.Spelling.{spell, Formed}
-use Rattle.text.specs.Parsing.{linesOf, wellFormed}
-use Rattle.text.specs.Plans.{layerLines, planLines, textOf, layerSizes, cellsIn, shapeIn, counted, wellCounted, agrees}
+use Rattle.line.specs.Lines.{LAYER, putField}
+use Rattle.line.proofs.Lines.{old-layer}
+use Rattle.text.specs.Spelling.{spell, headed, allShort, Formed}
+use Rattle.text.specs.Parsing.{only, linesOf, wellFormed}
+use Rattle.text.specs.Plans.{layerLines, planLines, textOf, layerSizes, layerMargins, cellsIn, shapeIn, counted, wellCounted, agrees}
 use Rattle.text.specs.Reader.{linesCause, readCause, textShape, textCells}
 use Rattle.text.specs.Theorems.{PlanText, GivesBack, OfPlan, Writes, ReaderRefuses, WriterRefuses, RoundTrip}
 use Rattle.text.specs.Writer.{writeCause}
-use Rattle.text.proofs.Parsing.{lines-of-spelling, spelling-of-lines}
-use Rattle.text.proofs.Sound.{passed-sound}
+use Rattle.text.proofs.Parsing.{lines-of-spelling, spelling-of-lines, first-none, none-behind}
+use Rattle.text.proofs.Verdict.{agreed}
+use Rattle.text.proofs.Sound.{Inside, inside-layer, inside-rect, margins-many, passed-sound}
 use Rattle.lists.proofs.Padding.{take-padded}
 use Rattle.text.proofs.Plans.{plan-shape, plan-cells, plan-agrees, plan-short, plan-long, plan-headed, lines-are}
 
@@ -59,7 +65,7 @@ module _ (s : Shape) (plan : List ℤ) (sound : Sound s plan) where
 headed-lines : (ls : List Line) → agrees ls ≡ true → ls ≡ planLines (shapeIn ls) (cellsIn ls)
 unfolding agrees planLines shapeIn
 headed-lines [] e = clash e refl
-headed-lines (Layer n ∷ ls) e = clash e refl
+headed-lines (Layer n m ∷ ls) e = clash e refl
 headed-lines (Rectangle r ∷ ls) e = clash e refl
 headed-lines (Plan (negsuc k) ∷ ls) e = clash e refl
 headed-lines (Plan (pos k) ∷ ls) e =
@@ -67,8 +73,12 @@ headed-lines (Plan (pos k) ∷ ls) e =
     let c = both (eqb (length (layerSizes ls)) k) (counted 0 ls) (b .0) in
     let l = eqb-true (length (layerSizes ls)) k (c .0) in
     let f = checked (shapeIn (Plan (pos k) ∷ ls)) (cellsIn ls) (passed-sound (Plan (pos k) ∷ ls) (eqb-true (planCause (shapeIn (Plan (pos k) ∷ ls)) (cellsIn ls)) 0 (b .1))) in
-    let t : take k (padded 6 (layerSizes ls)) ≡ layerSizes ls = sym (ap (λ (n : ℕ). take n (padded 6 (layerSizes ls))) l) ∙ take-padded 6 (layerSizes ls) (omega (arith, f .high)) in
-    ap (λ (m : List Line). Plan (pos k) ∷ m) (lines-are 0 ls (c .1) ∙ ap (λ (ns : List ℕ). layerLines ns (cellsIn ls)) (sym t))
+    let n = front (layerSizes ls) k l (f .high) in
+    let m = front (layerMargins ls) k (margins-many ls ∙ l) (f .high) in
+    ap (λ (m : List Line). Plan (pos k) ∷ m) (lines-are 0 ls (c .1) ∙ ap₂ (λ (ns ms : List ℕ). layerLines ns ms (cellsIn ls)) (sym n) (sym m))
+  where
+    front : (ns : List ℕ) (k : ℕ) → length ns ≡ k → k ≤ 6 → take k (padded 6 ns) ≡ ns
+    front ns k l h = sym (ap (λ (i : ℕ). take i (padded 6 ns)) l) ∙ take-padded 6 ns (omega arith)
 
 agrees-sound : (ls : List Line) → agrees ls ≡ true → Sound (shapeIn ls) (cellsIn ls)
 unfolding agrees
@@ -195,6 +205,42 @@ module _ (room : ℕ) (t : List ℕ) where
       go (no-plan k f x) = absurd (omega arith)
       go (of p) = (p, short (leb (length (p .plan)) room) p refl (sym (plan-cause room t p) ∙ e))
 
+-- ---- LAYER lines
+old : (room : ℕ) (front : List Line) (n : ℤ) (rest : List ℕ) → allShort front ≡ true → short n ≡ true → readCause room (spell front ++ (LAYER ++ putField n 10 rest)) ≡ 9
+unfolding readCause linesOf
+old room front n rest h k =
+    ap (λ (o : Option (List Line)). linesCause room (only headed o))
+    (none-behind front (LAYER ++ putField n 10 rest) h (first-none (LAYER ++ putField n 10 rest) (omega arith) (old-layer n rest k)))
+
+-- a margin among counted lines that are in range is from 0 to 50,000
+margin-inside : (due : ℕ) (front : List Line) (n m : ℤ) (back : List Line) → counted due (front ++ Layer n m ∷ back) ≡ true → Inside (front ++ Layer n m ∷ back) → (pos 0 ≤ℤ m) × (m ≤ℤ pos 50000)
+margin-inside due [] (negsuc n) m back c i = clash c refl
+margin-inside due [] (pos n) (negsuc m) back c i = clash c refl
+margin-inside due [] (pos n) (pos m) back c i = let b = inside-layer i in (omega zarith, omega (zarith, b .1))
+margin-inside due (Plan k ∷ front) n m back c i = clash c refl
+margin-inside due (Layer (negsuc a) b ∷ front) n m back c i = clash c refl
+margin-inside due (Layer (pos a) (negsuc b) ∷ front) n m back c i = clash c refl
+margin-inside due (Layer (pos a) (pos b) ∷ front) n m back c i =
+    margin-inside a front n m back (both (eqb due 0) (counted a (front ++ Layer n m ∷ back)) c .1) (inside-layer i .2)
+margin-inside zero (Rectangle r ∷ front) n m back c i = clash c refl
+margin-inside (suc due) (Rectangle r ∷ front) n m back c i = margin-inside due front n m back c (inside-rect i .1)
+
+margin-agrees : (front : List Line) (n m : ℤ) (back : List Line) → agrees (front ++ Layer n m ∷ back) ≡ true → (pos 0 ≤ℤ m) × (m ≤ℤ pos 50000)
+margin-agrees [] n m back e = clash e (unfold agrees in refl)
+margin-agrees (Layer a b ∷ front) n m back e = clash e (unfold agrees in refl)
+margin-agrees (Rectangle r ∷ front) n m back e = clash e (unfold agrees in refl)
+margin-agrees (Plan (negsuc k) ∷ front) n m back e = clash e (unfold agrees in refl)
+margin-agrees (Plan (pos k) ∷ front) n m back e = let a = agreed k (front ++ Layer n m ∷ back) e in margin-inside 0 front n m back (a .count) (a .inside)
+
+margin : (room : ℕ) (front : List Line) (n m : ℤ) (back : List Line) → headed (front ++ Layer n m ∷ back) ≡ true → allShort (front ++ Layer n m ∷ back) ≡ true
+    → ((pos 0 ≤ℤ m) × (m ≤ℤ pos 50000) → ⊥) → readCause room (spell (front ++ Layer n m ∷ back)) ≡ 10
+unfolding readCause
+margin room front n m back h s x = rw (lines-of-spelling (front ++ Layer n m ∷ back) h s) (go (agrees (front ++ Layer n m ∷ back)) (margin-agrees front n m back))
+  where
+    go : (b : Bool) → (b ≡ true → (pos 0 ≤ℤ m) × (m ≤ℤ pos 50000)) → (unless b 10 orElse unless (leb (length (cellsIn (front ++ Layer n m ∷ back))) room) 11) ≡ 10
+    go true f = absurd (x (f refl))
+    go false f = refl
+
 -- ---- the writer
 module _ (s : Shape) (plan : List ℤ) where
   writes : (buf : List ℕ) → Sound s plan → length (textOf s plan) ≤ length buf → Writes s plan buf
@@ -206,24 +252,24 @@ module _ (s : Shape) (plan : List ℤ) where
   twelve : (room : ℕ) → (writeCause s plan room ≡ 12) ↔ ((planCause s plan ≡ 0) × (room < length (textOf s plan)))
   unfolding writeCause
   twelve room =
-      let i = check-failed (planCause s plan) 11 (omega (arith, plan-most s plan)) (λ z. le-tells (length (textOf s plan)) room) in
+      let i = check-failed (planCause s plan) 11 (plan-not s plan 12 (omega arith) (λ e. omega arith)) (λ z. le-tells (length (textOf s plan)) room) in
       (λ e. let h = i .0 e in (h .0, omega (arith, h .1)), λ h. i .1 (h .0, λ l. omega (arith, h .1)))
 
-  earlier : (room n : ℕ) → 0 < n → n < 12 → (writeCause s plan room ≡ n) ↔ (planCause s plan ≡ n)
+  earlier : (room n : ℕ) → 0 < n → (n ≡ 12 → ⊥) → (writeCause s plan room ≡ n) ↔ (planCause s plan ≡ n)
   unfolding writeCause
-  earlier room n p l = check-others (planCause s plan) (leb (length (textOf s plan)) room) 12 n p (λ e. omega arith)
+  earlier room n p x = check-others (planCause s plan) (leb (length (textOf s plan)) room) 12 n p x
 
 -- ---- refusals, value by value
 reader-refuses : (t : List ℕ) (cells : List ℤ) (n : ℕ) → 0 < n → readCause (length cells) t ≡ n → ReaderRefuses t cells n
 reader-refuses t cells zero h e = absurd (omega arith)
-reader-refuses t cells (suc n) h e = record { number = rw e; k = rw e; sizes = rw e; kept = rw e }
+reader-refuses t cells (suc n) h e = record { number = rw e; k = rw e; sizes = rw e; margins = rw e; kept = rw e }
 
 writer-refuses : (s : Shape) (plan : List ℤ) (buf : List ℕ) (n : ℕ) → 0 < n → writeCause s plan (length buf) ≡ n → WriterRefuses s plan buf n
 writer-refuses s plan buf zero h e = absurd (omega arith)
 writer-refuses s plan buf (suc n) h e = record { answer = rw e; number = rw e; size = rw e; told = rw e; kept = rw e }
 
 -- ---- the longest text
-longest : (s : Shape) (plan : List ℤ) → Sound s plan → length (textOf s plan) ≤ 126019
+longest : (s : Shape) (plan : List ℤ) → Sound s plan → length (textOf s plan) ≤ 126055
 unfolding textOf
 longest s plan sound = plan-long s plan sound
 
@@ -239,6 +285,8 @@ round-trip = record {
   eleven = λ room t. (eleven-only room t, λ h. plan-cause room t (h .0) ∙ rw (lt-leb (length (h .0 .plan)) room (h .1)));
   twelve = twelve;
   earlier = earlier;
+  old = old;
+  margin = margin;
   reader-refuses = reader-refuses;
   writer-refuses = writer-refuses;
   longest = longest;

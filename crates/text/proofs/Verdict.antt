@@ -16,20 +16,20 @@ use Rattle.line.specs.declared.Line.{Line}
 use Rattle.line.specs.declared.Line.the-variants.{Plan, Layer, Rectangle}
 use Rattle.text.specs.declared.Tally.{Tally}
 use Rattle.text.specs.Spelling.{allInner}
-use Rattle.text.specs.Plans.{layerSizes, cellsIn, shapeIn, counted, agrees}
+use Rattle.text.specs.Plans.{layerSizes, layerMargins, cellsIn, shapeIn, counted, agrees}
 use Rattle.text.specs.Counting.{noneYet, addLayer, addRect, addLines, layersRight, tallyCause}
 use Rattle.text.proofs.Counting.{layer-formed, rect-formed}
-use Rattle.text.proofs.Sound.{passed-sound, sound-lines, lines-small, lines-ranged}
+use Rattle.text.proofs.Sound.{Inside, passed-sound, sound-lines, lines-inside}
 use Rattle.text.proofs.Passing.{Tallied, Passed, passes, passed}
 
 still-formed : (t : Tally) (ls : List Line) → allInner ls ≡ true → addLines t ls .formed ≡ t .formed
 still-formed t [] i = refl
 still-formed t (Plan k ∷ ls) i = clash i refl
-still-formed t (Layer n ∷ ls) i = still-formed (addLayer t n) ls i ∙ layer-formed t n
+still-formed t (Layer n m ∷ ls) i = still-formed (addLayer t n m) ls i ∙ layer-formed t n m
 still-formed t (Rectangle r ∷ ls) i = still-formed (addRect t r) ls i ∙ rect-formed t r
 
-none-tallied : Tallied [] noneYet
-none-tallied = record { formed = refl; layers = refl; rects = refl; sizes = refl }
+none-tallied : Tallied [] [] noneYet
+none-tallied = record { formed = refl; layers = refl; beside = refl; rects = refl; sizes = refl; margins = refl }
 
 -- the test behind the last line
 abbrev right : ℤ → Tally → Bool
@@ -41,7 +41,8 @@ pub record Agreed (k : ℕ) (ls : List Line) : Type 0 where
   pub high : k ≤ 6
   pub layers : length (layerSizes ls) ≡ k
   pub count : counted 0 ls ≡ true
-  pub tally : Passed (layerSizes ls) (addLines noneYet ls)
+  pub inside : Inside ls
+  pub tally : Passed (layerSizes ls) (layerMargins ls) (addLines noneYet ls)
 
 module _ (k : ℕ) (ls : List Line) where
   pub agreed : agrees (Plan (pos k) ∷ ls) ≡ true → Agreed k ls
@@ -51,12 +52,14 @@ module _ (k : ℕ) (ls : List Line) where
       let c = both (eqb (length (layerSizes ls)) k) (counted 0 ls) (b .0) in
       let l = eqb-true (length (layerSizes ls)) k (c .0) in
       let s = checked (shapeIn (Plan (pos k) ∷ ls)) (cellsIn ls) (passed-sound (Plan (pos k) ∷ ls) (eqb-true (planCause (shapeIn (Plan (pos k) ∷ ls)) (cellsIn ls)) 0 (b .1))) in
+      let i = lines-inside k ls l (s .high) (c .1) s in
       record {
         low = s .low;
         high = s .high;
         layers = l;
         count = c .1;
-        tally = passes [] noneYet ls refl none-tallied (record { count = c .1; few = omega (arith, s .high); small = lines-small k ls l (s .high) (c .1) s; ranged = lines-ranged k ls l (s .high) (c .1) s });
+        inside = i;
+        tally = passes [] [] noneYet ls refl none-tallied (record { count = c .1; few = omega (arith, s .high); inside = i });
       }
 
   agree-right : Agreed k ls → right (pos k) (addLines noneYet ls) ≡ true
@@ -73,10 +76,10 @@ module _ (k : ℕ) (ls : List Line) where
       let d = both (leb 2 k) (leb k 6 && eqb k (t .layers)) (c .1) in
       let g = both (leb k 6) (eqb k (t .layers)) (d .1) in
       let f = passed noneYet ls i (b .0) (eqb-true (t .due) 0 (c .0)) (omega arith) in
-      let p = passes [] noneYet ls refl none-tallied f in
+      let p = passes [] [] noneYet ls refl none-tallied f in
       let l : length (layerSizes ls) ≡ k = sym (p .done .layers) ∙ sym (eqb-true k (t .layers) (g .1)) in
       let h = leb-true k 6 (g .0) in
-      let s = sound-lines k ls l h (f .count) (leb-true 2 k (d .0)) (f .small) (f .ranged) in
+      let s = sound-lines k ls l h (f .count) (leb-true 2 k (d .0)) (f .inside) in
       rw (eq-eqb (length (layerSizes ls)) k l, f .count, eq-eqb (planCause (shapeIn (Plan (pos k) ∷ ls)) (cellsIn ls)) 0 s)
 
 pub verdict : (k : ℤ) (ls : List Line) → allInner ls ≡ true → tallyCause k (addLines noneYet ls) ≡ unless (agrees (Plan k ∷ ls)) 10

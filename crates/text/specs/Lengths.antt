@@ -6,7 +6,8 @@ use lib.ListN.{length}
 use Rattle.line.specs.declared.Line.the-variants.{Layer}
 use Rattle.line.specs.Lines.{spellTo}
 
--- the length of the LAYER lines of these sizes
-abbrev pub layersLength : List ℕ → ℕ
-layersLength [] = 0
-layersLength (n ∷ ns) = length (spellTo (Layer (pos n)) []) + layersLength ns
+-- the length of the LAYER lines of these sizes and margins
+abbrev pub layersLength : (sizes margins : List ℕ) → ℕ
+layersLength [] ms = 0
+layersLength (n ∷ ns) [] = 0
+layersLength (n ∷ ns) (m ∷ ms) = length (spellTo (Layer (pos n) (pos m)) []) + layersLength ns ms

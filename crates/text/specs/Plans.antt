@@ -22,14 +22,16 @@ rectLines (a ∷ []) = []
 rectLines (a ∷ b ∷ []) = []
 rectLines (a ∷ b ∷ c ∷ []) = []
 
--- 01: "then for each layer a LAYER line and its RECT lines"
-abbrev pub layerLines : List ℕ → List ℤ → List Line
-layerLines [] cells = []
-layerLines (n ∷ ns) cells = Layer (pos n) ∷ (rectLines (take (4 * n) cells) ++ layerLines ns (drop (4 * n) cells))
+-- 01: "then for each layer a LAYER line and its RECT lines". 02, Q-4: each layer's margin is "written as a second number on its LAYER line"; the text
+-- takes the cells "ungrown"
+abbrev pub layerLines : (sizes margins : List ℕ) → List ℤ → List Line
+layerLines [] ms cells = []
+layerLines (n ∷ ns) [] cells = []
+layerLines (n ∷ ns) (m ∷ ms) cells = Layer (pos n) (pos m) ∷ (rectLines (take (4 * n) cells) ++ layerLines ns ms (drop (4 * n) cells))
 
--- 01: "One PLAN line comes first"
+-- 01: "One PLAN line comes first"; the sizes and margins behind it are those of the k layers
 unfoldable pub planLines : Shape → List ℤ → List Line
-planLines s cells = Plan (pos (s .k)) ∷ layerLines (sizesOf s) cells
+planLines s cells = Plan (pos (s .k)) ∷ layerLines (sizesOf s) (take (s .k) (s .margins)) cells
 
 -- "the one text of a plan"
 unfoldable pub textOf : Shape → List ℤ → List ℕ
@@ -41,33 +43,41 @@ textOf s cells = spell (planLines s cells)
 abbrev pub layersIn : List Line → ℕ
 layersIn [] = 0
 layersIn (Plan k ∷ ls) = natAbs k
-layersIn (Layer n ∷ ls) = 0
+layersIn (Layer n m ∷ ls) = 0
 layersIn (Rectangle b ∷ ls) = 0
 
 -- the sizes that the LAYER lines give
 abbrev pub layerSizes : List Line → List ℕ
 layerSizes [] = []
 layerSizes (Plan k ∷ ls) = layerSizes ls
-layerSizes (Layer n ∷ ls) = natAbs n ∷ layerSizes ls
+layerSizes (Layer n m ∷ ls) = natAbs n ∷ layerSizes ls
 layerSizes (Rectangle b ∷ ls) = layerSizes ls
+
+-- the margins that they give
+abbrev pub layerMargins : List Line → List ℕ
+layerMargins [] = []
+layerMargins (Plan k ∷ ls) = layerMargins ls
+layerMargins (Layer n m ∷ ls) = natAbs m ∷ layerMargins ls
+layerMargins (Rectangle b ∷ ls) = layerMargins ls
 
 -- the cells that the RECT lines give
 abbrev pub cellsIn : List Line → List ℤ
 cellsIn [] = []
 cellsIn (Plan k ∷ ls) = cellsIn ls
-cellsIn (Layer n ∷ ls) = cellsIn ls
+cellsIn (Layer n m ∷ ls) = cellsIn ls
 cellsIn (Rectangle b ∷ ls) = b .left ∷ b .bottom ∷ b .right ∷ b .top ∷ cellsIn ls
 
--- the shape that lines give
+-- the shape that lines give: sizes and margins past the last layer are 0
 unfoldable pub shapeIn : List Line → Shape
-shapeIn ls = record { k = layersIn ls; sizes = padded 6 (layerSizes ls) }
+shapeIn ls = record { k = layersIn ls; sizes = padded 6 (layerSizes ls); margins = padded 6 (layerMargins ls) }
 
--- `due` RECT lines come first, and behind each LAYER line as many as it says
+-- `due` RECT lines come first, and behind each LAYER line as many as it says. A size or a margin below 0 is no plan's
 abbrev pub counted : ℕ → List Line → Bool
 counted due [] = eqb due 0
 counted due (Plan k ∷ ls) = false
-counted due (Layer (pos n) ∷ ls) = eqb due 0 && counted n ls
-counted due (Layer (negsuc n) ∷ ls) = false
+counted due (Layer (pos n) (pos m) ∷ ls) = eqb due 0 && counted n ls
+counted due (Layer (pos n) (negsuc m) ∷ ls) = false
+counted due (Layer (negsuc n) m ∷ ls) = false
 counted zero (Rectangle b ∷ ls) = false
 counted (suc due) (Rectangle b ∷ ls) = counted due ls
 
@@ -76,9 +86,9 @@ abbrev pub wellCounted : List Line → Bool
 wellCounted [] = false
 wellCounted (Plan (pos k) ∷ ls) = eqb (length (layerSizes ls)) k && counted 0 ls
 wellCounted (Plan (negsuc k) ∷ ls) = false
-wellCounted (Layer n ∷ ls) = false
+wellCounted (Layer n m ∷ ls) = false
 wellCounted (Rectangle b ∷ ls) = false
 
--- 10 does not apply: nothing is miscounted, and none of 1, 2 and 4 would apply
+-- 10 does not apply: nothing is miscounted, and none of 1, 2, 17 and 4 would apply. 02, Q-4: "17, after 2, in a text 10"
 unfoldable pub agrees : List Line → Bool
 agrees ls = wellCounted ls && eqb (planCause (shapeIn ls) (cellsIn ls)) 0

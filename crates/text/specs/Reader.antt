@@ -30,11 +30,12 @@ textShape t = shapeIn (listIn (linesOf t))
 unfoldable pub textCells : List ℕ → List ℤ
 textCells t = cellsIn (listIn (linesOf t))
 
--- k and all sizes 0
+-- k, all sizes and all margins 0
 abbrev pub noShape : Shape
-noShape = record { k = 0; sizes = 0 ∷ 0 ∷ 0 ∷ 0 ∷ 0 ∷ 0 ∷ [] }
+noShape = record { k = 0; sizes = 0 ∷ 0 ∷ 0 ∷ 0 ∷ 0 ∷ 0 ∷ []; margins = 0 ∷ 0 ∷ 0 ∷ 0 ∷ 0 ∷ 0 ∷ [] }
 
--- what the reader answers where `room` cells are lent. 01: "returns k and the sizes"; "A refusal returns its number and 0 for all else"
+-- what the reader answers where `room` cells are lent. 01: "returns k and the sizes"; 02, Q-4, of margins: "reading returns them too"; 01: "A
+-- refusal returns its number and 0 for all else"
 abbrev pub readAnswer : ℕ → List ℕ → Reading
 readAnswer room t = onCause (readCause room t) (record { number = 0; shape = textShape t }) (λ n. record { number = n; shape = noShape })
 

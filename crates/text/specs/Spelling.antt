@@ -15,7 +15,7 @@ spell (l ∷ ls) = spellTo l (spell ls)
 -- a LAYER or RECT line
 abbrev pub inner : Line → Bool
 inner (Plan k) = false
-inner (Layer n) = true
+inner (Layer n m) = true
 inner (Rectangle b) = true
 
 -- LAYER and RECT lines only
@@ -27,7 +27,7 @@ allInner (l ∷ ls) = inner l && allInner ls
 abbrev pub headed : List Line → Bool
 headed [] = false
 headed (Plan k ∷ ls) = allInner ls
-headed (Layer n ∷ ls) = false
+headed (Layer n m ∷ ls) = false
 headed (Rectangle b ∷ ls) = false
 
 -- lines of short numbers

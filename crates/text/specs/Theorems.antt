@@ -4,12 +4,16 @@ use mathlib.Core.List.{List, [], _∷_, _++_}
 use mathlib.Core.Bool.{true}
 use mathlib.Core.Logic.{_↔_}
 use Prim.Native.Nat.{ℕ, _*_, _≤_, _<_}
-use lib.IntN.{ℤ}
+use lib.IntN.{ℤ, pos}
+use lib.Signed.{_≤ℤ_}
 use lib.ListN.{length, take, drop}
 use Rattle.lists.specs.Lists.{sum}
 use Rattle.plan.specs.declared.Shape.{Shape}
 use Rattle.plan.specs.Plan.{planCause, Sound}
-use Rattle.text.specs.Spelling.{Formed}
+use Rattle.decimal.specs.Numerals.{numeral, short}
+use Rattle.line.specs.declared.Line.{Line}
+use Rattle.line.specs.declared.Line.the-variants.{Layer}
+use Rattle.text.specs.Spelling.{spell, headed, allShort, Formed}
 use Rattle.text.specs.Parsing.{wellFormed}
 use Rattle.text.specs.declared.Writing.the-variants.{Written, Refused}
 use Rattle.text.specs.Plans.{textOf}
@@ -44,11 +48,12 @@ pub record Writes (s : Shape) (plan : List ℤ) (buf : List ℕ) : Type 0 where
   pub text : take (length (textOf s plan)) (bufferAfter s plan buf) ≡ textOf s plan
   pub rest : drop (length (textOf s plan)) (bufferAfter s plan buf) ≡ drop (length (textOf s plan)) buf
 
--- the reader refuses a text by n: it returns n and 0 for all else, k and the six sizes, and the cells are as they were
+-- the reader refuses a text by n: it returns n and 0 for all else, k, the six sizes and the six margins, and the cells are as they were
 pub record ReaderRefuses (t : List ℕ) (cells : List ℤ) (n : ℕ) : Type 0 where
   pub number : readAnswer (length cells) t .number ≡ n
   pub k : readAnswer (length cells) t .shape .k ≡ 0
   pub sizes : readAnswer (length cells) t .shape .sizes ≡ 0 ∷ 0 ∷ 0 ∷ 0 ∷ 0 ∷ 0 ∷ []
+  pub margins : readAnswer (length cells) t .shape .margins ≡ 0 ∷ 0 ∷ 0 ∷ 0 ∷ 0 ∷ 0 ∷ []
   pub kept : cellsAfter t cells ≡ cells
 
 -- the writer refuses a plan by n: it returns n and the length 0, and the buffer is as it was
@@ -72,9 +77,15 @@ pub record RoundTrip : Type 0 where
   pub ten : (room : ℕ) (t : List ℕ) → (readCause room t ≡ 10) ↔ ((wellFormed t ≡ true) × (PlanText t → ⊥))
   pub eleven : (room : ℕ) (t : List ℕ) → (readCause room t ≡ 11) ↔ ((p : PlanText t) × (room < length (p .plan)))
   pub twelve : (s : Shape) (plan : List ℤ) (room : ℕ) → (writeCause s plan room ≡ 12) ↔ ((planCause s plan ≡ 0) × (room < length (textOf s plan)))
-  pub earlier : (s : Shape) (plan : List ℤ) (room n : ℕ) → 0 < n → n < 12 → (writeCause s plan room ≡ n) ↔ (planCause s plan ≡ n)
+  pub earlier : (s : Shape) (plan : List ℤ) (room n : ℕ) → 0 < n → (n ≡ 12 → ⊥) → (writeCause s plan room ≡ n) ↔ (planCause s plan ≡ n)
+  -- 02, Q-4: "old LAYER lines are no longer well formed": where LAYER and a single number stand behind whole lines, it is 9
+  pub old : (room : ℕ) (front : List Line) (n : ℤ) (rest : List ℕ) → allShort front ≡ true → short n ≡ true
+      → readCause room (spell front ++ 76 ∷ 65 ∷ 89 ∷ 69 ∷ 82 ∷ 9 ∷ (numeral n ++ 10 ∷ rest)) ≡ 9
+  -- "a margin out of range, .. 17, .. in a text 10": a LAYER line with a margin that is not from 0 to 50,000, in a well formed text
+  pub margin : (room : ℕ) (front : List Line) (n m : ℤ) (back : List Line) → headed (front ++ Layer n m ∷ back) ≡ true → allShort (front ++ Layer n m ∷ back) ≡ true
+      → ((pos 0 ≤ℤ m) × (m ≤ℤ pos 50000) → ⊥) → readCause room (spell (front ++ Layer n m ∷ back)) ≡ 10
   -- "A refusal returns its number and 0 for all else", and leaves what it was lent as it was
   pub reader-refuses : (t : List ℕ) (cells : List ℤ) (n : ℕ) → 0 < n → readCause (length cells) t ≡ n → ReaderRefuses t cells n
   pub writer-refuses : (s : Shape) (plan : List ℤ) (buf : List ℕ) (n : ℕ) → 0 < n → writeCause s plan (length buf) ≡ n → WriterRefuses s plan buf n
   -- no text of a plan is longer
-  pub longest : (s : Shape) (plan : List ℤ) → Sound s plan → length (textOf s plan) ≤ 126019
+  pub longest : (s : Shape) (plan : List ℤ) → Sound s plan → length (textOf s plan) ≤ 126055

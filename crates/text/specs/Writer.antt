@@ -1,4 +1,4 @@
--- What the writer answers (01, "Causes and their numbers", 1 to 4 and 12).
+-- What the writer answers (01, "Causes and their numbers", 1 to 4 and 12; 02, Q-4, 17).
 use mathlib.Core.List.{List, _++_}
 use Prim.Native.Nat.{ℕ}
 use lib.Dec.{leb}

@@ -7,6 +7,7 @@ use geometry::in_range;
 use line::Found;
 use line::Line;
 use line::read_line;
+use plan::MOST_MARGIN;
 use plan::MOST_SIZE;
 use plan::Shape;
 ghost use mathlib.Core.Path.{_≡_};
@@ -15,10 +16,12 @@ ghost use lib.ListN.{length, drop};
 ghost use Rattle.line.specs.declared.Line.the-variants.{Plan};
 ghost use Rattle.line.specs.Places.{Line-at};
 ghost use Rattle.text.specs.Filling.{refusedBy, Decided};
-ghost use Rattle.text.specs.Counting.{noneYet, unformed, spoilt, layerRight, addLayer, addRect, addLine, tallyFrom, Few, layersRight, tallyCause};
+ghost use Rattle.text.specs.Counting.{noneYet, unformed, spoilt, upTo, layerRight, addLayer, addRect, addLine, tallyFrom, Few, layersRight, tallyCause};
 
-// The largest size of a layer.
-const MOST: i32 = MOST_SIZE as i32;
+// The largest size and the largest margin of a layer.
+const LARGEST: i32 = MOST_SIZE as i32;
+
+const WIDEST: i32 = MOST_MARGIN as i32;
 
 // Nothing counted yet.
 fn none_yet() -> Tally
@@ -31,6 +34,7 @@ fn none_yet() -> Tally
         layers: 0,
         rects: 0,
         sizes: [0u32; 6],
+        margins: [0u32; 6],
     }
 }
 
@@ -45,6 +49,7 @@ fn not_formed() -> Tally
         layers: 0,
         rects: 0,
         sizes: [0u32; 6],
+        margins: [0u32; 6],
     }
 }
 
@@ -57,9 +62,19 @@ fn spoil(t: Tally) -> Tally
     u
 }
 
-// Whether a LAYER line of this size may come.
-fn layer_right(t: Tally, n: i32) -> bool
-    ensures { λ r. ⌜ r ≡ layerRight t n ⌝ }
+// Whether n is from 0 to `most`.
+fn up_to(most: i32, n: i32) -> bool
+    ensures { λ r. ⌜ r ≡ upTo most n ⌝ }
+{
+    if 0 <= n {
+        return n <= most;
+    }
+    false
+}
+
+// Whether a LAYER line of this size and margin may come.
+fn layer_right(t: Tally, n: i32, margin: i32) -> bool
+    ensures { λ r. ⌜ r ≡ layerRight t n margin ⌝ }
 {
     if t.due != 0 {
         return false;
@@ -67,18 +82,18 @@ fn layer_right(t: Tally, n: i32) -> bool
     if t.layers >= 6 {
         return false;
     }
-    if 0 <= n {
-        return n <= MOST;
+    if !up_to(LARGEST, n) {
+        return false;
     }
-    false
+    up_to(WIDEST, margin)
 }
 
 // One layer more.
-fn add_layer(t: Tally, n: i32) -> Tally
+fn add_layer(t: Tally, n: i32, margin: i32) -> Tally
     requires { ⌜ Few t ⌝ }
-    ensures { λ r. ⌜ r ≡ addLayer t n ⌝ }
+    ensures { λ r. ⌜ r ≡ addLayer t n margin ⌝ }
 {
-    if !layer_right(t, n) {
+    if !layer_right(t, n, margin) {
         return spoil(t);
     }
     let j = t.layers;
@@ -88,6 +103,7 @@ fn add_layer(t: Tally, n: i32) -> Tally
     u.layers = j + 1;
     u.rects = t.rects + size as usize;
     u.sizes[j] = size;
+    u.margins[j] = margin as u32;
     u
 }
 
@@ -113,7 +129,7 @@ fn add_line(t: Tally, line: Line) -> Tally
 {
     match line {
         Line::Plan(_) => not_formed(),
-        Line::Layer(n) => add_layer(t, n),
+        Line::Layer(n, margin) => add_layer(t, n, margin),
         Line::Rectangle(r) => add_rect(t, r),
     }
 }
@@ -176,6 +192,7 @@ fn refuse(cause: u32) -> Decision
     let shape = Shape {
         k: 0,
         sizes: [0u32; 6],
+        margins: [0u32; 6],
     };
     let reading = Reading {
         number: cause,
@@ -198,7 +215,12 @@ fn decide_on(s: &[u8], k: i32, next: usize, room: usize) -> Decision
         return refuse(11);
     }
     let sizes = t.sizes;
-    let shape = Shape { k: k as u32, sizes };
+    let margins = t.margins;
+    let shape = Shape {
+        k: k as u32,
+        sizes,
+        margins,
+    };
     let reading = Reading { number: 0, shape };
     Decision { reading, next }
 }
@@ -212,7 +234,7 @@ pub fn decide(s: &[u8], room: usize) -> Decision
     };
     match line {
         Line::Plan(k) => decide_on(s, k, next, room),
-        Line::Layer(_) => refuse(9),
+        Line::Layer(_, _) => refuse(9),
         Line::Rectangle(_) => refuse(9),
     }
 }

@@ -1,31 +1,15 @@
 // The reader's second pass: the cells of an accepted text.
-use geometry::Rect;
 use line::Found;
 use line::Line;
 use line::read_line;
+use plan::put_rect;
 ghost use mathlib.Core.List.{[], _∷_};
 ghost use Prim.Native.Nat.{_+_, _≤_};
 ghost use lib.ListN.{length, drop};
-ghost use Rattle.decimal.specs.Stores.{Put};
+ghost use Rattle.lists.specs.Stores.{Put};
 ghost use Rattle.line.specs.declared.Line.the-variants.{Rectangle};
 ghost use Rattle.text.specs.Plans.{cellsIn};
 ghost use Rattle.text.specs.Filling.{restCells, LinesFit};
-
-// A rectangle's four cells from a place on; the place behind them.
-fn put_rect(cells: &mut [i32], i: usize, r: Rect) -> usize
-    requires { ⌜ i + 4 ≤ length (now cells) ⌝ }
-    ensures { λ v. ⌜ Put (now (cells .entry)) i (cellsIn (Rectangle r ∷ [])) (now (cells .exit)) v ⌝ }
-{
-    let left = r.left;
-    let bottom = r.bottom;
-    let right = r.right;
-    let top = r.top;
-    cells[i] = left;
-    cells[i + 1] = bottom;
-    cells[i + 2] = right;
-    cells[i + 3] = top;
-    i + 4
-}
 
 // The cells that a line gives, from a place on; the place behind them.
 fn put_line(cells: &mut [i32], i: usize, line: Line) -> usize
@@ -34,7 +18,7 @@ fn put_line(cells: &mut [i32], i: usize, line: Line) -> usize
 {
     match line {
         Line::Plan(_) => i,
-        Line::Layer(_) => i,
+        Line::Layer(_, _) => i,
         Line::Rectangle(r) => put_rect(cells, i, r),
     }
 }

@@ -17,7 +17,7 @@ ghost use lib.ListN.{length};
 ghost use Rattle.text.specs.Reader.{readCause, readAnswer, cellsAfter};
 ghost use Rattle.text.specs.Writer.{writeCause, writeAnswer, writeLength, numberOf, lengthOf, bufferAfter};
 
-// What the first pass has found: well formed and nothing wrong so far, RECT lines due, layers, rectangles in all, sizes.
+// What the first pass has found: well formed and nothing wrong so far, RECT lines due, layers, rectangles in all, sizes, margins.
 pub struct Tally {
     pub formed: bool,
     pub good: bool,
@@ -25,6 +25,7 @@ pub struct Tally {
     pub layers: usize,
     pub rects: usize,
     pub sizes: [u32; 6],
+    pub margins: [u32; 6],
 }
 
 // What the reader answers: a cause's number, or 0 and the plan's shape.

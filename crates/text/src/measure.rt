@@ -28,15 +28,15 @@ fn rects_size(cells: &[i32], n: usize) -> usize
     size
 }
 
-// The length of the LAYER lines of the first k sizes.
-fn layers_size(sizes: &[u32], k: usize) -> usize
-    requires { ⌜ (k ≤ length (now sizes)) × (k ≤ 6) ⌝ }
-    ensures { λ v. ⌜ v ≡ layersLength (take k (now (sizes .entry))) ⌝ }
+// The length of the LAYER lines of the first k sizes and margins.
+fn layers_size<'a>(sizes: &'a [u32], margins: &'a [u32], k: usize) -> usize
+    requires { ⌜ (k ≤ length (now sizes)) × (k ≤ length (now margins)) × (k ≤ 6) ⌝ }
+    ensures { λ v. ⌜ v ≡ layersLength (take k (now (sizes .entry))) (take k (now (margins .entry))) ⌝ }
 {
     let mut size: usize = 0;
     let mut j: usize = 0;
     while j < k {
-        size += layer_line_size(sizes[j]);
+        size += layer_line_size(sizes[j], margins[j]);
         j += 1;
     }
     size
@@ -48,5 +48,7 @@ pub fn text_size(shape: Shape, cells: &[i32]) -> usize
     ensures { λ v. ⌜ v ≡ length (textOf shape (now (cells .entry))) ⌝ }
 {
     let k = shape.k;
-    plan_line_size(k) + layers_size(&shape.sizes, k as usize) + rects_size(cells, cells.len() / 4)
+    plan_line_size(k)
+        + layers_size(&shape.sizes, &shape.margins, k as usize)
+        + rects_size(cells, cells.len() / 4)
 }

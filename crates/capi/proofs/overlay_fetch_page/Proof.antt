@@ -29,8 +29,8 @@ returns : tie.Need-returns
 returns c =
     let f = c .before .before .before .before .before .before in
     let i = f .before .before in
-    let a = i .before .before .before .before .before .args in
-    let s = shapeOf (a .k) (a .sizes .now) in
+    let a = i .before .before .before .before .before .before .args in
+    let s = shapeOf (a .k) (a .sizes .now) (a .margins .now) in
     let from = i .cursor-in .ensures in
     let page = f .fetch-page .ensures .0 ∙ ap (λ (u : Cursor). pageCall s (a .cells .now) (a .order .now) u (a .budget) (a .table .now)) from in
     (c .stop-number .ensures ∙ f .fetch-page .ensures .1 .0 ∙ ap (pageCause s (a .cells .now) (a .order .now)) from, (c .before .before .before .page-cells .ensures ∙ ap pageCells page, (c .before .cursor-after .ensures ∙ ap (cursorAfter (a .cursor .now)) page, f .fetch-page .ensures .1 .1 ∙ ap (λ (u : Cursor). pageTable s (a .cells .now) (a .order .now) u (a .budget) (a .table .now)) from)))

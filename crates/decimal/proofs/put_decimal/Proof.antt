@@ -10,10 +10,10 @@ use lib.Seq.{sets, length-sets}
 use denote.Ref.{now}
 use borrow.Author.Needs.{needs}
 use Rattle.decimal.specs.Numerals.{digits, size, decimal}
-use Rattle.decimal.specs.Stores.{Put}
+use Rattle.lists.specs.Stores.{Put}
 use Rattle.decimal.proofs.Powers.{tenfold}
 use Rattle.decimal.proofs.Numerals.{length-decimal}
-use Rattle.decimal.proofs.Stores.{set-before}
+use Rattle.lists.proofs.Stores.{set-before}
 use Rattle.decimal.proofs.put_decimal.Statement.{statement}
 use Rattle.decimal.proofs.put_decimal.Tie as tie
 

@@ -13,7 +13,7 @@ use mir.Facts.{toZ-ofZ}
 use borrow.Author.Needs.{needs}
 use Rattle.decimal.specs.Numerals.{decimal, numeral}
 use Rattle.decimal.proofs.Signs.{neg-numeral, pos-numeral}
-use Rattle.decimal.proofs.Stores.{put-first, put-length}
+use Rattle.lists.proofs.Stores.{put-first, put-length}
 use denote.Ref.{now}
 use Rattle.decimal.proofs.put_number.Statement.{statement}
 use Rattle.decimal.proofs.put_number.Tie as tie

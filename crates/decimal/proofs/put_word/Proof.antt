@@ -5,8 +5,8 @@ use Prim.Native.Nat.{ℕ, _+_, _-_, _≤_, _<_}
 use native.Mathlib.Omega.{arith}
 use lib.ListN.{length, getD, set, drop, drop-of-length-le}
 use denote.Ref.{now}
-use Rattle.decimal.specs.Stores.{Put}
-use Rattle.decimal.proofs.Stores.{Left, left-all, left-byte, left-none}
+use Rattle.lists.specs.Stores.{Put}
+use Rattle.lists.proofs.Stores.{Left, left-all, left-byte, left-none}
 use Rattle.decimal.proofs.Places.{at-byte}
 use Rattle.decimal.proofs.put_word.Statement.{statement}
 use Rattle.decimal.proofs.put_word.Tie as tie

@@ -1,24 +1,24 @@
 -- `pager::fresh_cursor`: a refusal, or the cursor of the whole walk.
 use borrow.Author.Needs.{needs}
-use mathlib.Core.Path.{sym, _∙_}
+use lib.ListN.{length, take}
 use Rattle.plan.specs.Plan.{Typed}
-use Rattle.pager.proofs.Calls.{Opened, opened, fresh-refused, fresh-made}
+use Rattle.plan.proofs.Growing.{part-long}
+use Rattle.pager.proofs.Calls.{Admitted, admitted, fresh-refused, fresh-made}
 use Rattle.pager.proofs.fresh_cursor.Statement.{statement}
 use Rattle.pager.proofs.fresh_cursor.Tie as tie
 
 typed : (c : tie.Start) → Typed (c .args .shape)
-typed c = record { sizes = search needs }
+typed c = record { sizes = search needs; margins = search needs }
 
 -- the checks are passed
-opening : (c : tie.After-frame-of) → let a = c .before .before .before .before .args in Opened (a .shape) (a .cells .now) (a .order .now) (c .frame-of .result)
-opening c =
-    let s : tie.Start = search needs in
-    let k : tie.After-order-cause = search needs in
-    let e : tie.Else1 = search needs in
-    opened (s .args .shape) (s .args .cells .now) (s .args .order .now) (c .frame-of .result) (typed s) (sym (k .order-cause .ensures) ∙ e .if1 .left) (c .frame-of .ensures)
+opening : (c : tie.After-frame-of) → let a = c .before .before .before .before .before .before .args in Admitted (a .shape) (a .cells .now) (a .order .now) (take (length (a .cells .now)) (c .before .before .before .open-plan .last .1 .1 .1 .0)) (c .frame-of .result)
+opening c = let s : tie.Start = search needs in let e : tie.Else1 = search needs in admitted _ _ _ _ _ _ (typed s) (c .before .before .before .open-plan .ensures) (e .if1 .left) (c .frame-of .ensures)
 
-order-cause-requires : tie.Need-order-cause-requires
-order-cause-requires c κs = search needs
+slice-aggregate-open-plan : tie.Need-slice-aggregate-open-plan
+slice-aggregate-open-plan c = search needs
+
+open-plan-requires : tie.Need-open-plan-requires
+open-plan-requires c κs = search needs
 
 ended-cursor-requires : tie.Need-ended-cursor-requires
 ended-cursor-requires c κs = search needs
@@ -26,28 +26,40 @@ ended-cursor-requires c κs = search needs
 returns : tie.Need-returns
 returns c =
     let s : tie.Start = search needs in
-    let k : tie.After-order-cause = search needs in
+    let k : tie.After-open-plan = search needs in
     let a = s .args in
-    rw (c .ended-cursor .ensures) (fresh-refused (a .shape) (a .cells .now) (a .order .now) _ (k .order-cause .ensures) (c .before .if1 .taken))
+    rw (c .ended-cursor .ensures) (fresh-refused (a .shape) (a .cells .now) (a .order .now) _ (k .open-plan .ensures .number) (c .before .if1 .taken))
 
 frame-of-requires : tie.Need-frame-of-requires
 frame-of-requires c κs = search needs
 
+array-share-prefix-run : tie.Need-array-share-prefix-run
+array-share-prefix-run c = let e : tie.Else1 = search needs in c .before .before .before .open-plan .ensures .grown (e .if1 .left) .fits
+
+slice-aggregate-first-cursor : tie.Need-slice-aggregate-first-cursor
+slice-aggregate-first-cursor c =
+    let k : tie.After-open-plan = search needs in
+    let e : tie.Else1 = search needs in
+    part-long _ _ _ (k .open-plan .ensures .grown (e .if1 .left))
+
 first-cursor-requires : tie.Need-first-cursor-requires
-first-cursor-requires c κs = let o = opening c in (o .framing, o .ordered)
+first-cursor-requires c κs = let k : tie.After-frame-of = search needs in let o = opening k in (o .framing, o .ordered)
 
 returns-2 : tie.Need-returns-2
 returns-2 c =
     let k : tie.After-frame-of = search needs in
-    fresh-made _ _ _ (k .frame-of .result) (opening k) _ (c .first-cursor .ensures)
+    fresh-made _ _ _ _ (k .frame-of .result) (opening k) _ (c .first-cursor .ensures)
 
 pub fresh-cursor-spec : {M : Type 1} → statement M
 fresh-cursor-spec =
     tie.close
     (tie.spec
-    order-cause-requires
+    slice-aggregate-open-plan
+    open-plan-requires
     ended-cursor-requires
     returns
     frame-of-requires
+    array-share-prefix-run
+    slice-aggregate-first-cursor
     first-cursor-requires
     returns-2)

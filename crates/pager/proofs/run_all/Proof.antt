@@ -1,34 +1,43 @@
--- `pager::run_all`: a refusal by the checks 1 to 5, or the run.
+-- `pager::run_all`: a refusal by the checks before 7, or the run.
 use borrow.Author.Needs.{needs}
-use mathlib.Core.Path.{sym, _∙_}
+use lib.ListN.{length, take}
 use Rattle.plan.specs.Plan.{Typed}
-use Rattle.pager.proofs.Calls.{Opened, opened, run-refused, run-made}
+use Rattle.plan.proofs.Growing.{part-long}
+use Rattle.pager.proofs.Calls.{Admitted, admitted, run-refused, run-made}
 use Rattle.pager.proofs.run_all.Statement.{statement}
 use Rattle.pager.proofs.run_all.Tie as tie
 
 typed : (c : tie.Start) → Typed (c .args .shape)
-typed c = record { sizes = search needs }
+typed c = record { sizes = search needs; margins = search needs }
 
 -- the checks are passed
-opening : (c : tie.After-frame-of) → let a = c .before .before .before .before .before .args in Opened (a .shape) (a .cells .now) (a .order .now) (c .frame-of .result)
-opening c =
-    let s : tie.Start = search needs in
-    let k : tie.After-order-cause = search needs in
-    let e : tie.Else1 = search needs in
-    opened (s .args .shape) (s .args .cells .now) (s .args .order .now) (c .frame-of .result) (typed s) (sym (k .order-cause .ensures) ∙ e .if1 .left) (c .frame-of .ensures)
+opening : (c : tie.After-frame-of) → let a = c .before .before .before .before .before .before .before .args in Admitted (a .shape) (a .cells .now) (a .order .now) (take (length (a .cells .now)) (c .before .before .before .open-plan .last .1 .1 .1 .0)) (c .frame-of .result)
+opening c = let s : tie.Start = search needs in let e : tie.Else1 = search needs in admitted _ _ _ _ _ _ (typed s) (c .before .before .before .open-plan .ensures) (e .if1 .left) (c .frame-of .ensures)
 
-order-cause-requires : tie.Need-order-cause-requires
-order-cause-requires c κs = search needs
+slice-aggregate-open-plan : tie.Need-slice-aggregate-open-plan
+slice-aggregate-open-plan c = search needs
+
+open-plan-requires : tie.Need-open-plan-requires
+open-plan-requires c κs = search needs
 
 returns : tie.Need-returns
 returns c =
     let s : tie.Start = search needs in
-    let k : tie.After-order-cause = search needs in
+    let k : tie.After-open-plan = search needs in
     let a = s .args in
-    run-refused (a .shape) (a .cells .now) (a .order .now) (a .table .now) _ (k .order-cause .ensures) (c .if1 .taken)
+    run-refused (a .shape) (a .cells .now) (a .order .now) (a .table .now) _ (k .open-plan .ensures .number) (c .if1 .taken)
 
 frame-of-requires : tie.Need-frame-of-requires
 frame-of-requires c κs = search needs
+
+array-share-prefix-run : tie.Need-array-share-prefix-run
+array-share-prefix-run c = let e : tie.Else1 = search needs in c .before .before .before .open-plan .ensures .grown (e .if1 .left) .fits
+
+slice-aggregate-run-from : tie.Need-slice-aggregate-run-from
+slice-aggregate-run-from c =
+    let k : tie.After-open-plan = search needs in
+    let e : tie.Else1 = search needs in
+    part-long _ _ _ (k .open-plan .ensures .grown (e .if1 .left))
 
 run-from-requires : tie.Need-run-from-requires
 run-from-requires c κs = let k : tie.After-frame-of = search needs in let o = opening k in (o .framing, o .ordered)
@@ -40,16 +49,19 @@ returns-2 : tie.Need-returns-2
 returns-2 c =
     let k : tie.After-frame-of = search needs in
     let p : tie.After-run-from = search needs in
-    let a = k .before .before .before .before .before .args in
-    run-made (a .shape) (a .cells .now) (a .order .now) (a .table .now) (k .frame-of .result) (opening k) _ _ (p .run-from .ensures)
+    let a = k .before .before .before .before .before .before .before .args in
+    run-made (a .shape) (a .cells .now) (a .order .now) (a .table .now) _ (k .frame-of .result) (opening k) _ _ (p .run-from .ensures)
 
 pub run-all-spec : {M : Type 1} → statement M
 run-all-spec =
     tie.close
     (tie.spec
-    order-cause-requires
+    slice-aggregate-open-plan
+    open-plan-requires
     returns
     frame-of-requires
+    array-share-prefix-run
+    slice-aggregate-run-from
     run-from-requires
     same-length
     returns-2)

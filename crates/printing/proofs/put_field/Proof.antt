@@ -2,7 +2,7 @@
 use native.Mathlib.Omega.{arith}
 use lib.ListN.{length-set}
 use borrow.Author.Needs.{needs}
-use Rattle.decimal.proofs.Stores.{put-first}
+use Rattle.lists.proofs.Stores.{put-first}
 use Rattle.printing.proofs.Puts.{first-length}
 use Rattle.printing.proofs.put_field.Statement.{statement}
 use Rattle.printing.proofs.put_field.Tie as tie

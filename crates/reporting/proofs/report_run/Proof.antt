@@ -15,11 +15,8 @@ put-refused-requires c κs = search refused-room
 enum-known-run-2 : tie.Need-enum-known-run-2
 enum-known-run-2 c = search needs
 
-cast-put-table : tie.Need-cast-put-table
-cast-put-table c = search needs
-
-put-table-requires : tie.Need-put-table-requires
-put-table-requires c κs = search (rows-run, lines-room)
+put-grown-requires : tie.Need-put-grown-requires
+put-grown-requires c κs = search (rows-run, lines-room)
 
 same-length : tie.Need-same-length
 same-length c = search needs
@@ -34,4 +31,4 @@ returns-2 : tie.Need-returns-2
 returns-2 c = search (put-same, printed)
 
 pub report-run-spec : {M : Type 1} → statement M
-report-run-spec = tie.close (tie.spec enum-known-run put-refused-requires enum-known-run-2 cast-put-table put-table-requires same-length returns same-length-2 returns-2)
+report-run-spec = tie.close (tie.spec enum-known-run put-refused-requires enum-known-run-2 put-grown-requires same-length returns same-length-2 returns-2)

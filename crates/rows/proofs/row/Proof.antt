@@ -1,14 +1,17 @@
--- `rows::row`: a plan that the checks refuse, and one that they let through.
+-- `rows::row`: a plan that the checks refuse, and one that they let through, grown.
 use borrow.Author.Needs.{needs}
-use mathlib.Core.Path.{sym, _∙_}
-use Rattle.plan.specs.Plan.{Typed, Sound}
-use Rattle.plan.proofs.Plan.{framed}
+use mathlib.Core.Path.{sym, ap, _∙_}
+use mathlib.Core.List.{List}
+use lib.IntN.{ℤ}
+use Rattle.plan.specs.Plan.{Typed, Sound, layersOf, sizesOf}
+use Rattle.plan.proofs.Growing.{part-long, part-framed}
+use Rattle.rows.specs.Grounds.{rowTold}
 use Rattle.rows.proofs.Answers.{row-refused, row-accepted}
 use Rattle.rows.proofs.row.Statement.{statement}
 use Rattle.rows.proofs.row.Tie as tie
 
 typed : (c : tie.Start) → Typed (c .args .t1)
-typed c = record { sizes = search needs }
+typed c = record { sizes = search needs; margins = search needs }
 
 sound : (c : tie.Else1) → Sound (c .before .before .before .args .t1) (c .before .before .before .args .cells .now)
 sound c = record { typed = typed (c .before .before .before); passed = sym (c .before .plan-cause .ensures) ∙ c .if1 .left }
@@ -20,19 +23,44 @@ returns : tie.Need-returns
 returns c =
     let a = c .before .before .before .args in row-refused (a .t1) (a .cells .now) (a .places .now) _ (c .before .plan-cause .ensures) (c .if1 .taken)
 
+slice-aggregate-grow-plan : tie.Need-slice-aggregate-grow-plan
+slice-aggregate-grow-plan c = search needs
+
+grow-plan-requires : tie.Need-grow-plan-requires
+grow-plan-requires c κs = search needs
+
 cast-row-told : tie.Need-cast-row-told
 cast-row-told c = search needs
 
+array-share-prefix-run : tie.Need-array-share-prefix-run
+array-share-prefix-run c = search needs
+
+slice-aggregate-row-told : tie.Need-slice-aggregate-row-told
+slice-aggregate-row-told c = let g : tie.After-grow-plan = search needs in part-long _ _ _ (g .grow-plan .ensures)
+
 row-told-requires : tie.Need-row-told-requires
 row-told-requires c κs =
-    let s = c .before .before .before .before .before .before in framed (s .args .t1) (s .args .cells .now) (sound (c .before .before .before))
+    let g : tie.After-grow-plan = search needs in
+    let e : tie.Else1 = search needs in
+    part-framed _ _ _ (g .grow-plan .ensures) (sound e)
 
 returns-2 : tie.Need-returns-2
 returns-2 c =
-    let e = c .before .before .before .before in
+    let g : tie.After-grow-plan = search needs in
+    let e : tie.Else1 = search needs in
     let a = e .before .before .before .args in
-    row-accepted (a .t1) (a .cells .now) (a .places .now) _ (sound e) (c .row-told .ensures)
+    row-accepted (a .t1) (a .cells .now) (a .places .now) _ (sound e) (c .row-told .ensures ∙ ap (λ (l : List ℤ). rowTold (layersOf (sizesOf (a .t1)) l) (a .places .now)) (g .grow-plan .ensures .is))
 
 pub row-spec : {M : Type 1} → statement M
 row-spec =
-    tie.close (tie.spec plan-cause-requires returns cast-row-told row-told-requires returns-2)
+    tie.close
+    (tie.spec
+    plan-cause-requires
+    returns
+    slice-aggregate-grow-plan
+    grow-plan-requires
+    cast-row-told
+    array-share-prefix-run
+    slice-aggregate-row-told
+    row-told-requires
+    returns-2)

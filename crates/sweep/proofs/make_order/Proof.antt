@@ -1,15 +1,13 @@
 -- `sweep::make_order`: a case for each answer.
 use borrow.Author.Needs.{needs}
 use mathlib.Core.Path.{sym, _∙_}
-use native.Mathlib.Omega.{arith}
 use Rattle.plan.specs.Plan.{Typed, Sound}
-use Rattle.plan.proofs.Plan.{few}
 use Rattle.sweep.proofs.Orders.{order-refused, order-misfit, order-made}
 use Rattle.sweep.proofs.make_order.Statement.{statement}
 use Rattle.sweep.proofs.make_order.Tie as tie
 
 typed : (c : tie.Start) → Typed (c .args .shape)
-typed c = record { sizes = search needs }
+typed c = record { sizes = search needs; margins = search needs }
 
 sound : (c : tie.Else1) → Sound (c .before .before .before .args .shape) (c .before .before .before .args .cells .now)
 sound c = record { typed = typed (c .before .before .before); passed = sym (c .before .plan-cause .ensures) ∙ c .if1 .left }
@@ -25,11 +23,8 @@ returns-2 : tie.Need-returns-2
 returns-2 c =
     let a = c .before .before .before .before .args in order-misfit (a .shape) (a .cells .now) (a .order .now) (sound (c .before)) (c .if2 .taken)
 
-fill-requires : tie.Need-fill-requires
-fill-requires c κs =
-    let s = c .before .before .before .before .before in
-    let a = s .args in
-    (c .before .if2 .left, omega (arith, c .before .if2 .left, few (a .shape) (a .cells .now) (sound (c .before .before))))
+fill-grown-requires : tie.Need-fill-grown-requires
+fill-grown-requires c κs = (sound (c .before .before), c .before .if2 .left)
 
 same-length : tie.Need-same-length
 same-length c = search needs
@@ -38,8 +33,8 @@ returns-3 : tie.Need-returns-3
 returns-3 c =
     let k = c .before .before .before .before in
     let a = k .before .before .before .before .args in
-    order-made (a .shape) (a .cells .now) (a .order .now) (sound (k .before)) _ (k .if2 .left) (c .before .before .fill .ensures)
+    order-made (a .shape) (a .cells .now) (a .order .now) (sound (k .before)) _ (k .if2 .left) (c .before .before .fill-grown .ensures)
 
 pub make-order-spec : {M : Type 1} → statement M
 make-order-spec =
-    tie.close (tie.spec plan-cause-requires returns returns-2 fill-requires same-length returns-3)
+    tie.close (tie.spec plan-cause-requires returns returns-2 fill-grown-requires same-length returns-3)

@@ -1,4 +1,4 @@
--- `tally::crossing_report`: a refusal by the checks 1 to 4, 15 and 16, or the run and its report.
+-- `tally::crossing_report`: a refusal by the checks 1 to 4, 17, 15 and 16, or the run and its report.
 use mathlib.Core.Path.{_≡_, sym, _∙_}
 use Rattle.plan.specs.Plan.{Typed}
 use Rattle.crossings.specs.ClassCall.{crossingCause}
@@ -8,7 +8,7 @@ use Rattle.tally.proofs.crossing_report.Statement.{statement}
 use Rattle.tally.proofs.crossing_report.Tie as tie
 
 typed : (c : tie.Start) → Typed (c .args .shape)
-typed c = record { sizes = search needs }
+typed c = record { sizes = search needs; margins = search needs }
 
 passed : (c : tie.Else1) → let a = c .before .before .before .before .args in crossingCause (a .shape) (a .cells .now) ≡ 0
 passed c = sym (c .before .crossing-cause .ensures) ∙ c .if1 .left

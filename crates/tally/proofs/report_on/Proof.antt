@@ -13,24 +13,23 @@ refused-report-requires c κs = search needs
 enum-known-run-2 : tie.Need-enum-known-run-2
 enum-known-run-2 c = search needs
 
-cast-count-classes : tie.Need-cast-count-classes
-cast-count-classes c = search needs
-
-count-classes-requires : tie.Need-count-classes-requires
-count-classes-requires c κs =
-    let s = c .before .before .before .before .before .before .before in
+count-grown-requires : tie.Need-count-grown-requires
+count-grown-requires c κs =
+    let s : tie.Start = search needs in
     let a = s .args in
-    let e = c .before .before .before .before .run2 .given .1 in
-    (done-rows (a .t2) (a .cells .now) (a .run) (a .table .now) (s .pre) _ _ _ e, done-three (a .t2) (a .cells .now) (a .run) (a .table .now) (s .pre) _ _ _ e)
+    let r : tie.After-run2 = search needs in
+    let e = r .run2 .given .1 in
+    ((s .pre .sound, done-rows (a .shape) (a .cells .now) (a .run) (a .table .now) (s .pre) _ _ _ e), done-three (a .shape) (a .cells .now) (a .run) (a .table .now) (s .pre) _ _ _ e)
 
 returns : tie.Need-returns
-returns c = let a = c .before .before .before .before .before .args in refused-on (a .t2) (a .cells .now) (a .run) _ (c .before .before .run .given .1) _ (c .refused-report .ensures)
+returns c = let a = c .before .before .before .before .before .args in refused-on (a .shape) (a .cells .now) (a .run) _ (c .before .before .run .given .1) _ (c .refused-report .ensures)
 
 returns-2 : tie.Need-returns-2
 returns-2 c =
-    let s = c .before .before .before .before .before .before .before .before in
+    let s : tie.Start = search needs in
+    let r : tie.After-run2 = search needs in
     let a = s .args in
-    done-report (a .t2) (a .cells .now) (a .run) (a .table .now) (s .pre) _ _ _ (c .before .before .before .before .before .run2 .given .1) _ (c .count-classes .ensures)
+    done-report (a .shape) (a .cells .now) (a .run) (a .table .now) (s .pre) _ _ _ (r .run2 .given .1) _ (c .count-grown .ensures)
 
 pub report-on-spec : {M : Type 1} → statement M
 report-on-spec =
@@ -39,7 +38,6 @@ report-on-spec =
     enum-known-run
     refused-report-requires
     enum-known-run-2
-    cast-count-classes
-    count-classes-requires
+    count-grown-requires
     returns
     returns-2)

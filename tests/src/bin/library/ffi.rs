@@ -7,10 +7,17 @@ use overlay_tests::surveys::{Covered, Survey};
 
 #[link(name = "capi", kind = "static")]
 extern "C" {
-    fn overlay_plan_cause(k: u32, sizes: *const u32, cells: *const i32, cells_length: usize) -> u32;
+    fn overlay_plan_cause(
+        k: u32,
+        sizes: *const u32,
+        margins: *const u32,
+        cells: *const i32,
+        cells_length: usize,
+    ) -> u32;
     fn overlay_make_order(
         k: u32,
         sizes: *const u32,
+        margins: *const u32,
         cells: *const i32,
         cells_length: usize,
         order: *mut u32,
@@ -19,6 +26,7 @@ extern "C" {
     fn overlay_order_cause(
         k: u32,
         sizes: *const u32,
+        margins: *const u32,
         cells: *const i32,
         cells_length: usize,
         order: *const u32,
@@ -27,6 +35,7 @@ extern "C" {
     fn overlay_row(
         k: u32,
         sizes: *const u32,
+        margins: *const u32,
         cells: *const i32,
         cells_length: usize,
         places: *const u32,
@@ -36,6 +45,7 @@ extern "C" {
     fn overlay_nearest(
         k: u32,
         sizes: *const u32,
+        margins: *const u32,
         cells: *const i32,
         cells_length: usize,
         around: *const i32,
@@ -44,6 +54,7 @@ extern "C" {
     fn overlay_apart_pair(
         k: u32,
         sizes: *const u32,
+        margins: *const u32,
         cells: *const i32,
         cells_length: usize,
         places: *const u32,
@@ -53,6 +64,7 @@ extern "C" {
     fn overlay_fresh_cursor(
         k: u32,
         sizes: *const u32,
+        margins: *const u32,
         cells: *const i32,
         cells_length: usize,
         order: *const u32,
@@ -62,6 +74,7 @@ extern "C" {
     fn overlay_fetch_page(
         k: u32,
         sizes: *const u32,
+        margins: *const u32,
         cells: *const i32,
         cells_length: usize,
         order: *const u32,
@@ -75,6 +88,7 @@ extern "C" {
     fn overlay_run_all(
         k: u32,
         sizes: *const u32,
+        margins: *const u32,
         cells: *const i32,
         cells_length: usize,
         order: *const u32,
@@ -86,6 +100,7 @@ extern "C" {
     fn overlay_row_class(
         k: u32,
         sizes: *const u32,
+        margins: *const u32,
         cells: *const i32,
         cells_length: usize,
         places: *const u32,
@@ -95,6 +110,7 @@ extern "C" {
     fn overlay_crossing_report(
         k: u32,
         sizes: *const u32,
+        margins: *const u32,
         cells: *const i32,
         cells_length: usize,
         order: *const u32,
@@ -111,10 +127,12 @@ extern "C" {
         cells_length: usize,
         k: *mut u32,
         sizes: *mut u32,
+        margins: *mut u32,
     ) -> u32;
     fn overlay_write_text(
         k: u32,
         sizes: *const u32,
+        margins: *const u32,
         cells: *const i32,
         cells_length: usize,
         text: *mut u8,
@@ -168,17 +186,27 @@ fn stop_of(number: u32, code: u64) -> Stop {
     }
 }
 
-/// The first of the causes 1 to 4 that applies to a plan.
+/// The first of the causes 1, 2, 17, 3 and 4 that applies to a plan.
 pub fn plan_cause(shape: &Shape, cells: &[i32]) -> u32 {
     // SAFETY: every pointer comes from a reference, with its length.
-    unsafe { overlay_plan_cause(shape.k, shape.sizes.as_ptr(), cells.as_ptr(), cells.len()) }
+    unsafe {
+        overlay_plan_cause(shape.k, shape.sizes.as_ptr(), shape.margins.as_ptr(), cells.as_ptr(), cells.len())
+    }
 }
 
-/// The first of the causes 1 to 5 that applies to a plan and an order.
+/// The first of the causes 1, 2, 17, 3, 4 and 5 that applies to a plan and an order.
 pub fn order_cause(shape: &Shape, cells: &[i32], order: &[u32]) -> u32 {
     // SAFETY: every pointer comes from a reference, with its length.
     unsafe {
-        overlay_order_cause(shape.k, shape.sizes.as_ptr(), cells.as_ptr(), cells.len(), order.as_ptr(), order.len())
+        overlay_order_cause(
+            shape.k,
+            shape.sizes.as_ptr(),
+            shape.margins.as_ptr(),
+            cells.as_ptr(),
+            cells.len(),
+            order.as_ptr(),
+            order.len(),
+        )
     }
 }
 
@@ -190,6 +218,7 @@ pub fn nearest(shape: &Shape, cells: &[i32], around: [i32; 4]) -> NearestTold {
         overlay_nearest(
             shape.k,
             shape.sizes.as_ptr(),
+            shape.margins.as_ptr(),
             cells.as_ptr(),
             cells.len(),
             around.as_ptr(),
@@ -219,6 +248,7 @@ pub fn fetch_page(
         overlay_fetch_page(
             shape.k,
             shape.sizes.as_ptr(),
+            shape.margins.as_ptr(),
             cells.as_ptr(),
             cells.len(),
             order.as_ptr(),
@@ -261,6 +291,7 @@ impl Overlay for Library {
             overlay_make_order(
                 shape.k,
                 shape.sizes.as_ptr(),
+                shape.margins.as_ptr(),
                 cells.as_ptr(),
                 cells.len(),
                 order.as_mut_ptr(),
@@ -276,6 +307,7 @@ impl Overlay for Library {
             overlay_row(
                 shape.k,
                 shape.sizes.as_ptr(),
+                shape.margins.as_ptr(),
                 cells.as_ptr(),
                 cells.len(),
                 row.as_ptr(),
@@ -293,6 +325,7 @@ impl Overlay for Library {
             overlay_apart_pair(
                 shape.k,
                 shape.sizes.as_ptr(),
+                shape.margins.as_ptr(),
                 cells.as_ptr(),
                 cells.len(),
                 places.as_ptr(),
@@ -310,6 +343,7 @@ impl Overlay for Library {
             overlay_fresh_cursor(
                 shape.k,
                 shape.sizes.as_ptr(),
+                shape.margins.as_ptr(),
                 cells.as_ptr(),
                 cells.len(),
                 order.as_ptr(),
@@ -348,6 +382,7 @@ impl Overlay for Library {
             overlay_run_all(
                 shape.k,
                 shape.sizes.as_ptr(),
+                shape.margins.as_ptr(),
                 cells.as_ptr(),
                 cells.len(),
                 order.as_ptr(),
@@ -361,7 +396,8 @@ impl Overlay for Library {
     }
 
     fn read(&self, text: &[u8], cells: &mut [i32]) -> Reading {
-        let mut shape = Shape { k: UNWRITTEN as u32, sizes: [UNWRITTEN as u32; 6] };
+        let unwritten = UNWRITTEN as u32;
+        let mut shape = Shape { k: unwritten, sizes: [unwritten; 6], margins: [unwritten; 6] };
         // SAFETY: every pointer comes from a reference, with its length; those written to are exclusive.
         let number = unsafe {
             overlay_read_text(
@@ -371,6 +407,7 @@ impl Overlay for Library {
                 cells.len(),
                 &mut shape.k,
                 shape.sizes.as_mut_ptr(),
+                shape.margins.as_mut_ptr(),
             )
         };
         Reading { number, shape }
@@ -383,6 +420,7 @@ impl Overlay for Library {
             overlay_write_text(
                 shape.k,
                 shape.sizes.as_ptr(),
+                shape.margins.as_ptr(),
                 cells.as_ptr(),
                 cells.len(),
                 text.as_mut_ptr(),
@@ -402,6 +440,7 @@ impl Crossings for Library {
             overlay_row_class(
                 shape.k,
                 shape.sizes.as_ptr(),
+                shape.margins.as_ptr(),
                 cells.as_ptr(),
                 cells.len(),
                 places.as_ptr(),
@@ -419,6 +458,7 @@ impl Crossings for Library {
             overlay_crossing_report(
                 shape.k,
                 shape.sizes.as_ptr(),
+                shape.margins.as_ptr(),
                 cells.as_ptr(),
                 cells.len(),
                 order.as_ptr(),

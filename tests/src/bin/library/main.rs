@@ -9,7 +9,7 @@ use ffi::{cover_records, Library};
 use overlay_tests::compare::compare;
 use overlay_tests::crossings::{compare_crossings, ByWords};
 use overlay_tests::nearest::{compare_nearest, nearest};
-use overlay_tests::reference::Reference;
+use overlay_tests::reference::REFERENCE;
 use overlay_tests::surveys::{self, compare_surveys};
 use report::compare_program;
 use std::process::exit;
@@ -22,10 +22,11 @@ fn stop(text: &str, cases: u64) -> ! {
 
 /// The seven calls of 01 and the pair call first, then what only the C interface has, then those of 02, then the report program.
 fn main() {
-    let mut tally = compare(&Library, &Reference).unwrap_or_else(|found| stop(&found.text, found.cases));
+    let mut tally = compare(&Library, &REFERENCE).unwrap_or_else(|found| stop(&found.text, found.cases));
     let extras = compare_extras().unwrap_or_else(|text| stop(&text, tally.cases()));
     tally.add("C interface alone", extras);
-    let near = compare_nearest(&ffi::nearest, &nearest).unwrap_or_else(|found| stop(&found.text, tally.cases()));
+    let near =
+        compare_nearest(&ffi::nearest, &nearest).unwrap_or_else(|found| stop(&found.text, tally.cases()));
     tally.add("nearest", near);
     let surveys = compare_surveys(&cover_records, &surveys::cover_records);
     tally.add("surveys", surveys.unwrap_or_else(|found| stop(&found.text, tally.cases())));

@@ -5,8 +5,7 @@ use mir.Val.{SFits}
 use mir.Facts.{toZ-ofZ}
 use borrow.Author.Needs.{needs}
 use Rattle.decimal.proofs.Signs.{short-fits}
-use Rattle.line.specs.declared.Line.the-variants.{Plan}
-use Rattle.line.proofs.Places.{field-on, field-bad, count-good, count-bad}
+use Rattle.line.proofs.Places.{field-on, field-bad, plan-good, plan-bad}
 use Rattle.line.proofs.parse.read_plan.Statement.{statement}
 use Rattle.line.proofs.parse.read_plan.Tie as tie
 
@@ -25,12 +24,12 @@ returns c =
     let n : tie.After-k = search needs in
     let r = field-on _ _ 10 _ _ (sym (n .k .given .1) ∙ f .read-field .ensures) in
     let g : SFits w32 (n .k .given .0 .0) = short-fits _ (r .few) in
-    simp toZ-ofZ (count-good Plan _ _ _ _ r)
+    simp toZ-ofZ (plan-good _ _ _ _ r)
 
 returns-2 : tie.Need-returns-2
 returns-2 c =
     let f : tie.After-read-field = search needs in
-    count-bad Plan _ _ (field-bad _ _ 10 (sym (c .enum-told .given .1) ∙ f .read-field .ensures))
+    plan-bad _ _ (field-bad _ _ 10 (sym (c .enum-told .given .1) ∙ f .read-field .ensures))
 
 pub read-plan-spec : {M : Type 1} → statement M
 read-plan-spec =

@@ -5,7 +5,7 @@ use mir.Facts.{toZ-ofZ}
 use mathlib.Core.List.{[]}
 use denote.Ref.{now}
 use borrow.Author.Needs.{needs}
-use Rattle.decimal.proofs.Stores.{first-room, second-room, put-then}
+use Rattle.lists.proofs.Stores.{first-room, second-room, put-then}
 use Rattle.line.specs.Lines.{putField}
 use Rattle.line.proofs.Fields.{field-joined}
 use Rattle.line.proofs.put.put_corner.Statement.{statement}

@@ -7,7 +7,7 @@ use mir.Facts.{toZ-ofZ}
 use denote.Ref.{now}
 use borrow.Author.Needs.{needs}
 use Rattle.decimal.specs.Numerals.{numeral}
-use Rattle.decimal.proofs.Stores.{put-one, first-room, second-room, put-then}
+use Rattle.lists.proofs.Stores.{put-one, first-room, second-room, put-then}
 use Rattle.line.proofs.Fields.{word-joined}
 use Rattle.line.proofs.put.put_field.Statement.{statement}
 use Rattle.line.proofs.put.put_field.Tie as tie

@@ -5,7 +5,7 @@ use mir.Val.{SFits}
 use mir.Facts.{toZ-ofZ}
 use borrow.Author.Needs.{needs}
 use Rattle.geometry.proofs.Machine.{Fitting}
-use Rattle.decimal.proofs.Stores.{first-room, second-room, put-then}
+use Rattle.lists.proofs.Stores.{first-room, second-room, put-then}
 use Rattle.line.specs.Lines.{RECT, putField, putRect}
 use Rattle.line.proofs.Lines.{shorts}
 use Rattle.line.proofs.Fields.{word-joined, corner-joined}

@@ -33,6 +33,7 @@ returns-2 : tie.Need-returns-2
 returns-2 c =
     let a = c .before .before .before .before .args in
     let f : SFits w32 (c .before .before .line .given .0 .0) = search needs in
+    let g : SFits w32 (c .before .before .line .given .0 .1 .0) = search needs in
     simp toZ-ofZ at (c .add-layer .ensures) ∙ ap (addLine (a .t)) (sym (c .before .before .line .given .1))
 
 returns-3 : tie.Need-returns-3

@@ -47,17 +47,22 @@ refuse-requires-2 c κs = search needs
 returns-2 : tie.Need-returns-2
 returns-2 c = refused-room _ _ _ _ _ (good (c .before .before .before)) _ (c .before .if2 .taken) (c .refuse2 .ensures)
 
-cast-t12 : tie.Need-cast-t12
-cast-t12 c =
-    let f : SFits w32 (c .before .before .before .before .before .before .before .args .k) = c .before .before .before .before .before .before .before .fits .k in
-    let g = good (c .before .before .before) in
+cast-t13 : tie.Need-cast-t13
+cast-t13 c =
+    let s : tie.Start = search needs in
+    let e : tie.Else1 = search needs in
+    let f : SFits w32 (s .args .k) = s .fits .k in
+    let g = good e in
     simp toZ-ofZ (g .sign, omega (arith, g .layers))
 
 returns-3 : tie.Need-returns-3
 returns-3 c =
-    let a = c .before .before .before .before .before .before .before .args in
-    let f : SFits w32 (a .k) = c .before .before .before .before .before .before .before .fits .k in
-    simp toZ-ofZ (taken (now (a .s)) (a .k) (a .next) (a .room) _ (good (c .before .before .before)) (c .before .before .before .before .before .before .before .pre .inside) (c .before .if2 .left))
+    let s : tie.Start = search needs in
+    let e : tie.Else1 = search needs in
+    let h : tie.Else2 = search needs in
+    let a = s .args in
+    let f : SFits w32 (a .k) = s .fits .k in
+    simp toZ-ofZ (taken (now (a .s)) (a .k) (a .next) (a .room) _ (good e) (s .pre .inside) (h .if2 .left))
 
 pub decide-on-spec : {M : Type 1} → statement M
 decide-on-spec =
@@ -70,5 +75,5 @@ decide-on-spec =
     mul-if2
     refuse-requires-2
     returns-2
-    cast-t12
+    cast-t13
     returns-3)

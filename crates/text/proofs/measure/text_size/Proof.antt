@@ -22,7 +22,7 @@ layers-size-requires : tie.Need-layers-size-requires
 layers-size-requires c κs =
     let s : tie.Start = search needs in
     let h = checked (s .args .t1) (now (s .args .cells)) (s .pre) in
-    (omega (arith, h .high, s .pre .typed .sizes), h .high)
+    (omega (arith, h .high, s .pre .typed .sizes), omega (arith, h .high, s .pre .typed .margins), h .high)
 
 add-result : tie.Need-add-result
 add-result c =

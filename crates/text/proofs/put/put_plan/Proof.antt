@@ -2,9 +2,10 @@
 use mathlib.Core.List.{[], _∷_}
 use native.Mathlib.Omega.{arith}
 use lib.IntN.{pos}
+use lib.ListN.{take}
 use denote.Ref.{now}
 use borrow.Author.Needs.{needs}
-use Rattle.decimal.proofs.Stores.{first-room, second-room, put-then}
+use Rattle.lists.proofs.Stores.{first-room, second-room, put-then}
 use Rattle.lists.proofs.Tests.{both}
 use Rattle.plan.specs.Plan.{sizesOf}
 use Rattle.plan.proofs.Plan.{checked, front-sum}
@@ -22,7 +23,7 @@ unfolding textOf planLines
 put-plan-line-requires c κs =
     let s : tie.Start = search needs in
     let a = s .args in
-    first-room (lines-joined (Plan (pos (a .t2 .k)) ∷ []) (layerLines (sizesOf (a .t2)) (now (a .cells)))) (now (a .buf)) 0 (omega (arith, s .pre .1))
+    first-room (lines-joined (Plan (pos (a .t2 .k)) ∷ []) (layerLines (sizesOf (a .t2)) (take (a .t2 .k) (a .t2 .margins)) (now (a .cells)))) (now (a .buf)) 0 (omega (arith, s .pre .1))
 
 cast-put-layers : tie.Need-cast-put-layers
 cast-put-layers c = search needs
@@ -36,10 +37,10 @@ put-layers-requires c κs =
     let p = a .t2 in
     let cells = now (a .cells) in
     let h = checked p cells (s .pre .0) in (
-      (omega (arith, h .high, s .pre .0 .typed .sizes), h .high, omega (arith, h .whole, front-sum p cells h)),
+      (omega (arith, h .high, s .pre .0 .typed .sizes), omega (arith, h .high, s .pre .0 .typed .margins), h .high, omega (arith, h .whole, front-sum p cells h)),
       (
-        both (shortLine (Plan (pos (p .k)))) (allShort (layerLines (sizesOf p) cells)) (plan-short p cells (s .pre .0)) .1,
-        second-room (lines-joined (Plan (pos (p .k)) ∷ []) (layerLines (sizesOf p) cells)) (l .put-plan-line .ensures) (omega (arith, s .pre .1)),
+        both (shortLine (Plan (pos (p .k)))) (allShort (layerLines (sizesOf p) (take (p .k) (p .margins)) cells)) (plan-short p cells (s .pre .0)) .1,
+        second-room (lines-joined (Plan (pos (p .k)) ∷ []) (layerLines (sizesOf p) (take (p .k) (p .margins)) cells)) (l .put-plan-line .ensures) (omega (arith, s .pre .1)),
       ),
     )
 
@@ -53,7 +54,7 @@ returns c =
     let l : tie.After-put-plan-line = search needs in
     let r : tie.After-put-layers = search needs in
     let a = s .args in
-    put-then (lines-joined (Plan (pos (a .t2 .k)) ∷ []) (layerLines (sizesOf (a .t2)) (now (a .cells)))) (l .put-plan-line .ensures) (r .put-layers .ensures)
+    put-then (lines-joined (Plan (pos (a .t2 .k)) ∷ []) (layerLines (sizesOf (a .t2)) (take (a .t2 .k) (a .t2 .margins)) (now (a .cells)))) (l .put-plan-line .ensures) (r .put-layers .ensures)
 
 pub put-plan-spec : {M : Type 1} → statement M
 put-plan-spec =

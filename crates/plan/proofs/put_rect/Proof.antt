@@ -6,10 +6,10 @@ use mir.Val.{SFits}
 use mir.Facts.{toZ-ofZ}
 use denote.Ref.{now}
 use Rattle.geometry.proofs.Machine.{Fitting}
-use Rattle.survey.proofs.Records.{put-four}
+use Rattle.lists.proofs.Stores.{put-four}
 use borrow.Author.Needs.{needs}
-use Rattle.survey.proofs.fill.put_rect.Statement.{statement}
-use Rattle.survey.proofs.fill.put_rect.Tie as tie
+use Rattle.plan.proofs.put_rect.Statement.{statement}
+use Rattle.plan.proofs.put_rect.Tie as tie
 
 -- each coordinate fits
 fitting : (c : tie.Start) → Fitting (c .args .r)

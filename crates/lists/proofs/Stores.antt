@@ -7,7 +7,7 @@ use native.Mathlib.Numerals.{add-one}
 use native.Mathlib.Omega.{arith}
 use lib.ListN.{length, set, drop, length-set, length-append}
 use lib.Seq.{set-comm, sets, length-sets, sets-eq}
-use Rattle.decimal.specs.Stores.{Put}
+use Rattle.lists.specs.Stores.{Put}
 
 module _ {A : Type 0} where
   sets-append : (xs ys b : List A) (i : ℕ) → sets (sets b i xs) (i + length xs) ys ≡ sets b i (xs ++ ys)
@@ -27,6 +27,13 @@ module _ {A : Type 0} where
 
   pub put-one : (buf : List A) (at : ℕ) (b : A) → Put buf at (b ∷ []) (set buf at b) (at + 1)
   put-one buf at b = record { place = refl; stored = refl }
+
+  pub put-four : (buf : List A) (i : ℕ) (a b c d : A) → Put buf i (a ∷ b ∷ c ∷ d ∷ []) (set (set (set (set buf i a) (i + 1) b) (i + 2) c) (i + 3) d) (i + 4)
+  put-four buf i a b c d =
+      let e₁ : i + 1 ≡ suc i = omega arith in
+      let e₂ : i + 2 ≡ suc (suc i) = omega arith in
+      let e₃ : i + 3 ≡ suc (suc (suc i)) = omega arith in
+      record { place = refl; stored = rw (e₁, e₂, e₃) }
 
   -- a cell, and then the others from the next place on
   pub put-first : (buf last cells : List A) (at r : ℕ) (b : A) → Put (set buf at b) (at + 1) cells last r → Put buf at (b ∷ cells) last r
