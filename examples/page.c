@@ -72,15 +72,15 @@ static uint32_t take_rows(const struct plan *plan, const uint32_t *page, uint64_
 /* Fetches page after page until the walk has ended. */
 static uint32_t fetch_table(const struct plan *plan, struct table *table)
 {
-    uint32_t cursor[OVERLAY_CURSOR_CELLS], page[PAGE_CELLS];
-    uint64_t answer[OVERLAY_PAGE_CELLS];
-    uint32_t cause = overlay_fresh_cursor(plan->k, plan->sizes, plan->margins, plan->cells, plan->cells_length,
-                                          plan->order, plan->order_length, cursor);
+    uint32_t ticket[OVERLAY_TICKET_CELLS], page[PAGE_CELLS];
+    uint64_t record, answer[OVERLAY_PAGE_CELLS];
+    uint32_t cause = overlay_fresh_ticket(plan->k, plan->sizes, plan->margins, plan->cells, plan->cells_length,
+                                          plan->order, plan->order_length, ticket, &record, 1);
     if (cause != OVERLAY_CAUSE_NONE)
         return cause;
     do {
         cause = overlay_fetch_page(plan->k, plan->sizes, plan->margins, plan->cells, plan->cells_length,
-                                   plan->order, plan->order_length, cursor, PAGE_BUDGET,
+                                   plan->order, plan->order_length, ticket, &record, 1, PAGE_BUDGET,
                                    page, PAGE_CELLS, answer);
         if (cause != OVERLAY_CAUSE_NONE)
             return cause;

@@ -1,11 +1,14 @@
 /* The calls of the plan overlay for C and C++. Link with libcapi.a, which `rt staticlib capi` writes to target/staticlib. x86-64 Linux.
  *
  * Every call returns the number of the first cause that refuses it, or 0. A refusal leaves every buffer as it was and 0 in all cells of an answer; the
- * fresh cursor is then the ended one, and a page leaves its cursor as it was.
+ * fresh ticket is then the ended one with count 0, and a page leaves its ticket as it was.
  *
  * A plan is k, six sizes, six margins (those past k are 0) and its cells. Wherever a call compares, sorts or measures a rectangle, it is the one grown
  * by its layer's margin on all four sides: table, order, pages, guards, areas, pairs, classes and gaps are those of the grown rectangles. Cause 4 and
  * the text take it as it is. A box is never grown.
+ *
+ * A run is a fresh ticket and the pages from it on. Each ticket counts the probes that its run has done, and the run's record, a counter of one cell
+ * that the caller keeps beside the plan, holds the count of the newest. So a page call tells an earlier ticket from the newest, and refuses it by 18.
  *
  * No pointer is null, also where its length is 0. A buffer that a call writes to overlaps no other that it is handed.
  *
@@ -18,7 +21,7 @@
 #include <stdint.h>
 
 /* The version of this interface: another one where a declaration, a number or the order of cells is another, or one comes. */
-#define OVERLAY_VERSION 6
+#define OVERLAY_VERSION 7
 
 /* The largest plan: layers, rectangles, cells, a layer's margin in millimetres, and the bytes of the longest text, which is proved. So much is enough
  * for every plan. */
@@ -41,7 +44,7 @@ enum overlay_cause {
     OVERLAY_CAUSE_CELLS = 3,        /* the cells are not four for each rectangle */
     OVERLAY_CAUSE_RECT = 4,         /* a coordinate is out of range, left > right or bottom > top */
     OVERLAY_CAUSE_ORDER = 5,        /* the order is not the sweep order of the plan */
-    OVERLAY_CAUSE_CURSOR = 6,       /* the cursor is none of this plan */
+    OVERLAY_CAUSE_TICKET = 6,       /* the ticket is none of this plan, whatever it counts */
     OVERLAY_CAUSE_ROWS = 7,         /* there are more rows than the table takes */
     OVERLAY_CAUSE_ORDER_LENGTH = 8, /* the order buffer has not one cell for each rectangle */
     OVERLAY_CAUSE_FORM = 9,         /* the text is not well formed */
@@ -53,20 +56,23 @@ enum overlay_cause {
     OVERLAY_CAUSE_FEW_LAYERS = 15,  /* there are fewer than three layers */
     OVERLAY_CAUSE_SEGMENTS = 16,    /* bottom and top differ in layer k - 1, or left and right in layer k, or one of the two has a margin above 0 */
     OVERLAY_CAUSE_MARGINS = 17,     /* a margin is above 50,000, or not 0 past k; told behind 2. Class 17 is OVERLAY_CLASS_NO_ROW */
+    OVERLAY_CAUSE_STALE = 18,       /* the run record is not one cell; for a page, or holds 2^57 or more or not the ticket's count */
     OVERLAY_CAUSE_RECORD = 20,      /* the corners are not four a record, or one is not finite, out of order or beyond a million when covered */
     OVERLAY_CAUSE_STRIP = 21,       /* a strip's stop is not finite, its lower one is above its upper one, or its kind is above 3 */
     OVERLAY_CAUSE_PLACES = 23       /* there are not k places, or a place is not in its layer */
 };
 
-/* The cells of a cursor. The ended cursor is 1 and nine times 0. */
+/* The cells of a ticket. The ended ticket is 1, nine times 0 and its count. */
 enum {
-    OVERLAY_CURSOR_ENDED = 0,  /* whether the walk has ended: 0 or 1 */
-    OVERLAY_CURSOR_LAYER = 1,  /* the guard's layer, from 1 */
-    OVERLAY_CURSOR_PLACE = 2,  /* the guard's place */
-    OVERLAY_CURSOR_FILLED = 3, /* how many slots are filled */
-    OVERLAY_CURSOR_CHOSEN = 4, /* the first of the five chosen places */
-    OVERLAY_CURSOR_NEXT = 9,   /* the place to try */
-    OVERLAY_CURSOR_CELLS = 10
+    OVERLAY_TICKET_ENDED = 0,  /* whether the walk has ended: 0 or 1 */
+    OVERLAY_TICKET_LAYER = 1,  /* the guard's layer, from 1 */
+    OVERLAY_TICKET_PLACE = 2,  /* the guard's place */
+    OVERLAY_TICKET_FILLED = 3, /* how many slots are filled */
+    OVERLAY_TICKET_CHOSEN = 4, /* the first of the five chosen places */
+    OVERLAY_TICKET_NEXT = 9,   /* the place to try */
+    OVERLAY_TICKET_LOW = 10,   /* the probes that its run has done, modulo 2^32 */
+    OVERLAY_TICKET_HIGH = 11,  /* ... divided by 2^32 */
+    OVERLAY_TICKET_CELLS = 12
 };
 
 /* The cells of a page's answer. */
@@ -153,14 +159,18 @@ uint32_t overlay_nearest(uint32_t k, const uint32_t sizes[6], const uint32_t mar
 uint32_t overlay_apart_pair(uint32_t k, const uint32_t sizes[6], const uint32_t margins[6], const int32_t *cells,
                             size_t cells_length, const uint32_t *places, size_t places_length, uint64_t answer[2]);
 
-/* The cursor of the first probe; the ended cursor where there is none, and after a refusal. Tells 1, 2, 17, 3, 4 and 5. */
-uint32_t overlay_fresh_cursor(uint32_t k, const uint32_t sizes[6], const uint32_t margins[6], const int32_t *cells,
-                              size_t cells_length, const uint32_t *order, size_t order_length, uint32_t cursor[10]);
+/* The ticket of the first probe; the ended ticket where there is none, and after a refusal. A run begins: its record, one cell, is left with 0.
+ * Tells 1, 2, 17, 3, 4, 5 and 18. */
+uint32_t overlay_fresh_ticket(uint32_t k, const uint32_t sizes[6], const uint32_t margins[6], const int32_t *cells,
+                              size_t cells_length, const uint32_t *order, size_t order_length, uint32_t ticket[12],
+                              uint64_t *counter, size_t counter_length);
 
-/* A page from a cursor on, which is left with what is due next. Cells of the table behind the rows keep what they held. Tells 1, 2, 17, 3, 4, 5 and 6. */
+/* A page from a ticket on, which is left with what is due next, and the run's record with its count. Cells of the table behind the rows keep what they
+ * held. Tells 1, 2, 17, 3, 4, 5, 6 and 18; after 18 go on with the newest ticket of the run, or begin another run. */
 uint32_t overlay_fetch_page(uint32_t k, const uint32_t sizes[6], const uint32_t margins[6], const int32_t *cells,
-                            size_t cells_length, const uint32_t *order, size_t order_length, uint32_t cursor[10],
-                            uint32_t budget, uint32_t *table, size_t table_length, uint64_t answer[4]);
+                            size_t cells_length, const uint32_t *order, size_t order_length, uint32_t ticket[12],
+                            uint64_t *counter, size_t counter_length, uint32_t budget, uint32_t *table,
+                            size_t table_length, uint64_t answer[4]);
 
 /* All rows of a plan's table. Cells of the table behind the rows keep what they held. Tells 1, 2, 17, 3, 4, 5 and 7. */
 uint32_t overlay_run_all(uint32_t k, const uint32_t sizes[6], const uint32_t margins[6], const int32_t *cells,

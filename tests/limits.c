@@ -11,7 +11,8 @@
 static uint32_t k = OVERLAY_MOST_LAYERS, sizes[6] = {512, 512, 512, 512, 512, 512};
 static uint32_t margins[6] = {400, 300, 200, 100, 0, 0};
 static int32_t cells[OVERLAY_MOST_CELLS];
-static uint32_t order[OVERLAY_MOST_RECTS], table[OVERLAY_MOST_RECTS], cursor[OVERLAY_CURSOR_CELLS];
+static uint32_t order[OVERLAY_MOST_RECTS], table[OVERLAY_MOST_RECTS], ticket[OVERLAY_TICKET_CELLS];
+static uint64_t record;
 static uint8_t text[OVERLAY_MOST_TEXT];
 static size_t text_length;
 
@@ -41,17 +42,18 @@ static uint32_t apart_pair(void)
     uint64_t answer[OVERLAY_PAIR_CELLS];
     return overlay_apart_pair(k, sizes, margins, cells, OVERLAY_MOST_CELLS, table, k, answer);
 }
-static uint32_t fresh_cursor(void)
+static uint32_t fresh_ticket(void)
 {
-    return overlay_fresh_cursor(k, sizes, margins, cells, OVERLAY_MOST_CELLS, order, OVERLAY_MOST_RECTS, cursor);
+    return overlay_fresh_ticket(k, sizes, margins, cells, OVERLAY_MOST_CELLS, order, OVERLAY_MOST_RECTS, ticket,
+                                &record, 1);
 }
 static uint32_t fetch_page(void)
 {
     uint64_t answer[OVERLAY_PAGE_CELLS];
     uint32_t cause;
     do
-        cause = overlay_fetch_page(k, sizes, margins, cells, OVERLAY_MOST_CELLS, order, OVERLAY_MOST_RECTS, cursor,
-                                   10000, table, OVERLAY_MOST_RECTS, answer);
+        cause = overlay_fetch_page(k, sizes, margins, cells, OVERLAY_MOST_CELLS, order, OVERLAY_MOST_RECTS, ticket,
+                                   &record, 1, 10000, table, OVERLAY_MOST_RECTS, answer);
     while (cause == 0 && answer[OVERLAY_PAGE_STOP] != OVERLAY_ENDED);
     return cause;
 }
@@ -100,7 +102,7 @@ static const struct {
     uint32_t (*call)(void);
 } calls[] = {{"plan_cause", plan_cause}, {"make_order", make_order},     {"order_cause", order_cause},
              {"row", row},               {"nearest", nearest},           {"apart_pair", apart_pair},
-             {"row_class", row_class},   {"fresh_cursor", fresh_cursor}, {"fetch_page", fetch_page},
+             {"row_class", row_class},   {"fresh_ticket", fresh_ticket}, {"fetch_page", fetch_page},
              {"run_all", run_all},       {"crossing_report", crossing_report}, {"write_text", write_text},
              {"read_text", read_text},   {"cover_records", cover_records}};
 enum { CALLS = sizeof calls / sizeof *calls };

@@ -42,11 +42,11 @@ fn tell(plan: &str, call: &str, ours: f64, rust: f64) {
     println!("{plan:<22} {call:<10} {ours:>12.1} {rust:>12.1} {:>7.2}", ours / rust);
 }
 
-/// Pages from the fresh ticket to the end, by budgets of a given size.
-fn pages(mut page: impl FnMut(&Ticket) -> (Stop, Ticket), fresh: Ticket) {
-    let mut ticket = fresh;
+/// Pages from the fresh ticket to the end, by budgets of a given size, with a run record.
+fn pages(mut page: impl FnMut(&Ticket, &mut [u64]) -> (Stop, Ticket), fresh: Ticket) {
+    let (mut ticket, mut record) = (fresh, [0]);
     loop {
-        let (stop, next) = page(&ticket);
+        let (stop, next) = page(&ticket, &mut record);
         if stop == Stop::Ended {
             break;
         }
@@ -70,10 +70,11 @@ fn agree(plan: &Plan) -> (Vec<u32>, Run, Vec<u8>) {
     let run = Library.run(shape, cells, &order, &mut table);
     assert_eq!(run, hand::run(shape, cells, &order, &mut second));
     assert!(run.number == 0 && table == second);
-    let fresh = Library.fresh(shape, cells, &order).1;
-    let page = Library.page(shape, cells, &order, &fresh, 1_000, &mut table);
-    assert_eq!(page, hand::page(shape, cells, &order, &fresh, 1_000, &mut second));
-    assert!(table == second);
+    let (mut record, mut beside) = ([7], [0]);
+    let fresh = Library.fresh(shape, cells, &order, &mut record).1;
+    let page = Library.page(shape, cells, &order, &fresh, &mut record, 1_000, &mut table);
+    assert_eq!(page, hand::page(shape, cells, &order, &fresh, &mut beside, 1_000, &mut second));
+    assert!(table == second && record == beside);
     assert_eq!(ffi::nearest(shape, cells, AROUND), hand::nearest(shape, cells, AROUND));
 
     let (mut text, mut copy) = (vec![0; 200_000], vec![0; 200_000]);
@@ -104,10 +105,10 @@ fn bench(name: &str, plan: &Plan) {
     println!("{:<22} {:<10} {:>12.2} {:>12.2}", "", "ns a trial", ours * 500.0 / run.trials as f64, rust * 500.0 / run.trials as f64);
 
     let budget = 100_000;
-    let fresh = Library.fresh(shape, cells, &order).1;
+    let fresh = Library.fresh(shape, cells, &order, &mut [0]).1;
     let (ours, rust) = both(
-        || pages(|t| { let p = Library.page(shape, cells, &order, t, budget, &mut table); (p.stop, p.ticket) }, fresh),
-        || pages(|t| { let p = hand::page(shape, cells, &order, t, budget, &mut second); (p.stop, p.ticket) }, fresh),
+        || pages(|t, r| { let p = Library.page(shape, cells, &order, t, r, budget, &mut table); (p.stop, p.ticket) }, fresh),
+        || pages(|t, r| { let p = hand::page(shape, cells, &order, t, r, budget, &mut second); (p.stop, p.ticket) }, fresh),
     );
     tell(&name, "pages", ours, rust);
 

@@ -17,8 +17,8 @@ pub enum Call {
     MakeOrder { plan: Plan, order: Vec<u32> },
     Row { plan: Plan, row: Vec<u32> },
     Pair { plan: Plan, places: Vec<u32> },
-    Fresh { plan: Plan, order: Vec<u32> },
-    Page { plan: Plan, order: Vec<u32>, ticket: Ticket, budget: u32, table: Vec<u32> },
+    Fresh { plan: Plan, order: Vec<u32>, record: Vec<u64> },
+    Page { plan: Plan, order: Vec<u32>, ticket: Ticket, record: Vec<u64>, budget: u32, table: Vec<u32> },
     Run { plan: Plan, order: Vec<u32>, table: Vec<u32> },
     Read { text: Vec<u8>, cells: Vec<i32> },
     Write { plan: Plan, text: Vec<u8> },
@@ -53,6 +53,11 @@ pub fn cells_i32(length: usize) -> Vec<i32> {
     (0..length).map(|at| pattern(at) as i32).collect()
 }
 
+/// Cells of 64 bits filled with the pattern.
+pub fn cells_u64(length: usize) -> Vec<u64> {
+    (0..length).map(|at| u64::from(pattern(at)) << 32 | u64::from(pattern(at + 99))).collect()
+}
+
 /// Bytes filled with the pattern.
 pub fn bytes(length: usize) -> Vec<u8> {
     (0..length).map(|at| (pattern(at) >> 20) as u8).collect()
@@ -64,12 +69,12 @@ fn put(call: &mut Call, to: &dyn Overlay) -> Answer {
         Call::MakeOrder { plan, order } => Answer::Number(to.make_order(&plan.shape, &plan.cells, order)),
         Call::Row { plan, row } => Answer::Row(to.row(&plan.shape, &plan.cells, row)),
         Call::Pair { plan, places } => Answer::Pair(to.pair(&plan.shape, &plan.cells, places)),
-        Call::Fresh { plan, order } => {
-            let (number, ticket) = to.fresh(&plan.shape, &plan.cells, order);
+        Call::Fresh { plan, order, record } => {
+            let (number, ticket) = to.fresh(&plan.shape, &plan.cells, order, record);
             Answer::Fresh(number, ticket)
         }
-        Call::Page { plan, order, ticket, budget, table } => {
-            Answer::Page(to.page(&plan.shape, &plan.cells, order, ticket, *budget, table))
+        Call::Page { plan, order, ticket, record, budget, table } => {
+            Answer::Page(to.page(&plan.shape, &plan.cells, order, ticket, record, *budget, table))
         }
         Call::Run { plan, order, table } => Answer::Run(to.run(&plan.shape, &plan.cells, order, table)),
         Call::Read { text, cells } => Answer::Read(to.read(text, cells)),
@@ -114,14 +119,14 @@ fn show_call(text: &mut String, call: &Call) -> std::fmt::Result {
             writeln!(text, "pair, places {places:?}")?;
             show_plan(text, plan)
         }
-        Call::Fresh { plan, order } => {
-            writeln!(text, "fresh, order {order:?}")?;
+        Call::Fresh { plan, order, record } => {
+            writeln!(text, "fresh, order {order:?}, record {record:?}")?;
             show_plan(text, plan)
         }
-        Call::Page { plan, order, ticket, budget, table } => {
+        Call::Page { plan, order, ticket, record, budget, table } => {
             writeln!(
                 text,
-                "page, budget {budget}, table of {} cells\n{ticket:?}\norder {order:?}",
+                "page, budget {budget}, table of {} cells\n{ticket:?}, record {record:?}\norder {order:?}",
                 table.len()
             )?;
             show_plan(text, plan)
@@ -148,17 +153,25 @@ fn show_plan(text: &mut String, plan: &Plan) -> std::fmt::Result {
 }
 
 /// All buffers of a call by name, as plain numbers.
-fn lent(call: &Call) -> Vec<(&'static str, Vec<i64>)> {
-    let signed = |cells: &[i32]| cells.iter().map(|&c| i64::from(c)).collect::<Vec<i64>>();
-    let plain = |cells: &[u32]| cells.iter().map(|&c| i64::from(c)).collect::<Vec<i64>>();
-    let small = |cells: &[u8]| cells.iter().map(|&c| i64::from(c)).collect::<Vec<i64>>();
+fn lent(call: &Call) -> Vec<(&'static str, Vec<i128>)> {
+    let signed = |cells: &[i32]| cells.iter().map(|&c| i128::from(c)).collect::<Vec<i128>>();
+    let plain = |cells: &[u32]| cells.iter().map(|&c| i128::from(c)).collect::<Vec<i128>>();
+    let wide = |cells: &[u64]| cells.iter().map(|&c| i128::from(c)).collect::<Vec<i128>>();
+    let small = |cells: &[u8]| cells.iter().map(|&c| i128::from(c)).collect::<Vec<i128>>();
     match call {
-        Call::MakeOrder { plan, order } | Call::Fresh { plan, order } => {
-            vec![("plan", signed(&plan.cells)), ("order", plain(order))]
+        Call::MakeOrder { plan, order } => vec![("plan", signed(&plan.cells)), ("order", plain(order))],
+        Call::Fresh { plan, order, record } => {
+            vec![("plan", signed(&plan.cells)), ("order", plain(order)), ("record", wide(record))]
         }
         Call::Row { plan, row } => vec![("plan", signed(&plan.cells)), ("row", plain(row))],
         Call::Pair { plan, places } => vec![("plan", signed(&plan.cells)), ("places", plain(places))],
-        Call::Page { plan, order, table, .. } | Call::Run { plan, order, table } => {
+        Call::Page { plan, order, record, table, .. } => vec![
+            ("plan", signed(&plan.cells)),
+            ("order", plain(order)),
+            ("record", wide(record)),
+            ("table", plain(table)),
+        ],
+        Call::Run { plan, order, table } => {
             vec![("plan", signed(&plan.cells)), ("order", plain(order)), ("table", plain(table))]
         }
         Call::Read { text, cells } => vec![("text", small(text)), ("cells", signed(cells))],
@@ -167,7 +180,7 @@ fn lent(call: &Call) -> Vec<(&'static str, Vec<i64>)> {
 }
 
 /// The first cells in which a lent buffer differs after the two calls.
-fn show_buffers(text: &mut String, name: &str, left: &[i64], right: &[i64]) {
+fn show_buffers(text: &mut String, name: &str, left: &[i128], right: &[i128]) {
     let differing: Vec<usize> = (0..left.len()).filter(|&at| left[at] != right[at]).collect();
     for &at in differing.iter().take(8) {
         let _ = writeln!(text, "{name} cell {at}: left {}, right {}", left[at], right[at]);

@@ -1,12 +1,12 @@
 //! Puts thousands of seeded calls to two overlays and compares answers and all lent buffers.
 
-use crate::call::{ask, bytes, cells_i32, cells_u32, same, show, Answer, Call, Plan};
-use crate::known::{known_calls, known_margins};
+use crate::call::{ask, bytes, cells_i32, cells_u32, cells_u64, same, show, Answer, Call, Plan};
+use crate::known::{known_calls, known_margins, known_tickets};
 use crate::overlay::{Overlay, Page, Stop, Ticket};
-use crate::reference::{count_rows, each_tuple, join, layers_of, pairs};
+use crate::reference::{count_rows, each_tuple, join, layers_of, pairs, TOO_MANY};
 use crate::seeds::{
     equal_plan, grown_by, length, order, other_orders, plan_d, plan_from, shape_of, spell, text, tickets,
-    Seeds, DAMAGES, STYLES,
+    Seeds, DAMAGES, FIELDS, STYLES,
 };
 use std::fmt;
 
@@ -85,13 +85,14 @@ pub fn compare(left: &dyn Overlay, right: &dyn Overlay) -> Result<Tally, Differe
 // ---------------------------------------------------------------- one case
 
 impl Bench<'_> {
-    /// Puts one call to both and compares the whole of it; hands back the right answer.
-    fn ask(&mut self, kind: &'static str, call: Call) -> Result<Answer, Difference> {
+    /// Puts one call to both and compares the whole of it; hands back the right answer, and the call with its buffers as they are
+    /// then.
+    fn ask(&mut self, kind: &'static str, call: Call) -> Result<(Answer, Call), Difference> {
         let (mut ours, mut theirs) = (call.clone(), call.clone());
         let (left, right) = (ask(&mut ours, self.left), ask(&mut theirs, self.right));
         self.tally.add(kind, 1);
         if same((&left, &ours), (&right, &theirs)) {
-            return Ok(right);
+            return Ok((right, theirs));
         }
         Err(self.difference(kind, show(&call, (&left, &ours), (&right, &theirs))))
     }
@@ -117,15 +118,30 @@ impl Bench<'_> {
         self.ask(kind, Call::Pair { plan: plan.clone(), places: places.to_vec() }).map(drop)
     }
 
-    /// One fresh-ticket call, with its ticket.
+    /// One fresh-ticket call on a record of one cell, with its ticket.
     fn ask_fresh(&mut self, kind: &'static str, plan: &Plan, order: &[u32]) -> Result<Ticket, Difference> {
-        match self.ask(kind, Call::Fresh { plan: plan.clone(), order: order.to_vec() })? {
-            Answer::Fresh(_, ticket) => Ok(ticket),
+        self.ask_start(kind, plan, order, &mut cells_u64(1))
+    }
+
+    /// One fresh-ticket call on a record, with its ticket.
+    fn ask_start(
+        &mut self,
+        kind: &'static str,
+        plan: &Plan,
+        order: &[u32],
+        record: &mut Vec<u64>,
+    ) -> Result<Ticket, Difference> {
+        let call = Call::Fresh { plan: plan.clone(), order: order.to_vec(), record: record.clone() };
+        match self.ask(kind, call)? {
+            (Answer::Fresh(_, ticket), Call::Fresh { record: after, .. }) => {
+                *record = after;
+                Ok(ticket)
+            }
             _ => unreachable!("a fresh-ticket call gives a fresh ticket"),
         }
     }
 
-    /// One page call, with its page.
+    /// One page call on a record that holds the ticket's count, with its page.
     fn ask_page(
         &mut self,
         kind: &'static str,
@@ -134,10 +150,31 @@ impl Bench<'_> {
         ticket: &Ticket,
         limits: (u32, usize),
     ) -> Result<Page, Difference> {
-        let (budget, table) = (limits.0, cells_u32(limits.1));
-        let call = Call::Page { plan: plan.clone(), order: order.to_vec(), ticket: *ticket, budget, table };
+        self.ask_next(kind, (plan, order), ticket, &mut vec![ticket.count], limits)
+    }
+
+    /// One page call on a record, with its page.
+    fn ask_next(
+        &mut self,
+        kind: &'static str,
+        (plan, order): (&Plan, &[u32]),
+        ticket: &Ticket,
+        record: &mut Vec<u64>,
+        limits: (u32, usize),
+    ) -> Result<Page, Difference> {
+        let call = Call::Page {
+            plan: plan.clone(),
+            order: order.to_vec(),
+            ticket: *ticket,
+            record: record.clone(),
+            budget: limits.0,
+            table: cells_u32(limits.1),
+        };
         match self.ask(kind, call)? {
-            Answer::Page(page) => Ok(page),
+            (Answer::Page(page), Call::Page { record: after, .. }) => {
+                *record = after;
+                Ok(page)
+            }
             _ => unreachable!("a page call gives a page"),
         }
     }
@@ -183,6 +220,8 @@ impl Bench<'_> {
         self.pair_calls(&plan)?;
         self.paging(&plan)?;
         self.tickets(&plan)?;
+        self.records(&plan)?;
+        self.runs(&plan)?;
         self.whole_runs(&plan)?;
         self.texts_written(&plan)?;
         self.texts_read(&plan)?;
@@ -201,6 +240,7 @@ impl Bench<'_> {
         self.order_maker(&plan)?;
         self.paging(&plan)?;
         self.tickets(&plan)?;
+        self.runs(&plan)?;
         self.whole_runs(&plan)
     }
 
@@ -329,22 +369,33 @@ impl Bench<'_> {
         (budget, table)
     }
 
-    /// A page call in the list that is most likely refused: plan, order or ticket is damaged.
+    /// A page call in the list that is most likely refused: plan, order, ticket or record is damaged.
     fn refused_page(&mut self, plan: &Plan, good: &[u32], ticket: &Ticket) -> Outcome {
         let limits = self.limits(plan, 20);
         let (mut plan, mut order, mut ticket) = (plan.clone(), good.to_vec(), *ticket);
-        match self.seeds.below(3) {
+        let mut record = self.record(&ticket);
+        match self.seeds.below(4) {
             0 => {
                 let way = self.seeds.below(DAMAGES);
                 self.seeds.damage_plan(&mut plan, way);
             }
             1 => order.push(0),
-            _ => {
-                let field = self.seeds.below(10);
+            2 => {
+                let field = self.seeds.below(FIELDS);
                 ticket = self.seeds.damage_ticket(&ticket, field);
             }
+            _ => record = self.seeds.other_record(&ticket),
         }
-        self.ask_page("pages", &plan, &order, &ticket, limits).map(drop)
+        self.ask_next("pages", (&plan, &order), &ticket, &mut record, limits).map(drop)
+    }
+
+    /// A record that holds the ticket's count, and at times another.
+    fn record(&mut self, ticket: &Ticket) -> Vec<u64> {
+        if self.seeds.once_in(6) {
+            self.seeds.other_record(ticket)
+        } else {
+            vec![ticket.count]
+        }
     }
 
     /// Good tickets, tickets of another plan, tickets damaged in every field, and any others.
@@ -354,9 +405,13 @@ impl Bench<'_> {
             self.ask_ticket(plan, &ticket)?;
         }
         for ticket in self.some_tickets(&good, 2).into_iter().chain([Ticket::ENDED]) {
-            for field in 0..10 {
+            for field in 0..FIELDS {
                 let damaged = self.seeds.damage_ticket(&ticket, field);
                 self.ask_ticket(plan, &damaged)?;
+                if damaged.count != ticket.count {
+                    let (limits, mut record) = (self.limits(plan, 60), vec![ticket.count]);
+                    self.ask_next("tickets", (plan, &order(plan)), &damaged, &mut record, limits)?;
+                }
             }
         }
         let style = self.seeds.below(STYLES);
@@ -399,7 +454,8 @@ impl Bench<'_> {
         let mut chosen = [0; 5];
         chosen[..filled].copy_from_slice(&slots[..filled]);
         let (layer, filled, next) = (guard as u32 + 1, filled as u32, slots[filled]);
-        Ticket { ended: false, layer, place: places[guard], filled, chosen, next }
+        let count = self.seeds.below(30);
+        Ticket { ended: false, layer, place: places[guard], filled, chosen, next, count }
     }
 
     /// The first, the last and some others of a list.
@@ -525,9 +581,10 @@ impl Bench<'_> {
         self.ask_row(kind, plan, &[0; 6][..plan.shape.k.min(6) as usize])?;
         self.ask_pair(kind, plan, &[if more { 600 } else { 0 }; 6][..plan.shape.k.min(6) as usize])?;
         self.ask_pair(kind, plan, &[0; 7])?;
-        self.ask_fresh(kind, plan, &order)?;
-        let budget = self.seeds.budget(20);
-        self.ask_page(kind, plan, &order, &ticket, (budget, room))?;
+        let mut record = self.record(&ticket);
+        self.ask_start(kind, plan, &order, &mut record)?;
+        let (budget, mut record) = (self.seeds.budget(20), self.record(&ticket));
+        self.ask_next(kind, (plan, &order), &ticket, &mut record, (budget, room))?;
         self.ask_run(kind, plan, &order, room)?;
         self.ask_write(kind, plan, room)
     }
@@ -749,7 +806,7 @@ impl Bench<'_> {
     /// The calls whose answers the paper gives, put to both; a difference shows what is due as the right one.
     fn known(&mut self) -> Outcome {
         let kind = "known answers";
-        for known in known_calls().into_iter().chain(known_margins()) {
+        for known in known_calls().into_iter().chain(known_margins()).chain(known_tickets()) {
             for overlay in [self.left, self.right] {
                 let mut lent = known.call.clone();
                 let told = ask(&mut lent, overlay);
@@ -892,10 +949,9 @@ impl Bench<'_> {
             });
             let [layer, place, filled, first, second, next, ended] = digits;
             let ended = ended == 1 && code % 5 == 0;
-            self.ask_ticket(
-                plan,
-                &Ticket { ended, layer, place, filled, chosen: [first, second, 0, 0, 0], next },
-            )?;
+            let chosen = [first, second, 0, 0, 0];
+            let count = u64::from(code % 7);
+            self.ask_ticket(plan, &Ticket { ended, layer, place, filled, chosen, next, count })?;
         }
         Ok(())
     }
@@ -1034,6 +1090,148 @@ impl Bench<'_> {
     }
 }
 
+// ---------------------------------------------------------------- stale tickets (02, Q-5)
+
+/// A run as its tablet knows it: every ticket that it was given, the last one last, and its record.
+#[derive(Clone)]
+struct Tablet {
+    given: Vec<Ticket>,
+    record: Vec<u64>,
+}
+
+impl Tablet {
+    /// The ticket that was given last.
+    fn last(&self) -> Ticket {
+        self.given[self.given.len() - 1]
+    }
+
+    /// The ticket so many screens back, or the first.
+    fn back(&self, screens: usize) -> Ticket {
+        self.given[self.given.len().saturating_sub(screens + 1)]
+    }
+}
+
+impl Bench<'_> {
+    /// Records of every length and about every limit, with tickets that have their count and with others.
+    fn records(&mut self, plan: &Plan) -> Outcome {
+        let (kind, good) = ("records", order(plan));
+        for length in [0, 1, 2, 3] {
+            self.ask_start(kind, plan, &good, &mut cells_u64(length))?;
+            self.ask_start(kind, plan, &good, &mut vec![0; length])?;
+        }
+        let mut all = tickets(plan);
+        all.push(Ticket::ENDED.after(all.len() as u64));
+        for ticket in [self.seeds.pick(&all), all[all.len() - 1]] {
+            for length in [0, 2, 3] {
+                let limits = self.limits(plan, 20);
+                self.ask_next(kind, (plan, &good), &ticket, &mut vec![ticket.count; length], limits)?;
+            }
+            let (any, near) = (self.seeds.draw(), self.seeds.near_count(ticket.count));
+            for count in [0, 1 << 32, TOO_MANY - 1, TOO_MANY, TOO_MANY + 1, u64::MAX, any, near] {
+                let limits = self.limits(plan, 20);
+                self.ask_next(kind, (plan, &good), &ticket, &mut vec![count], limits)?;
+                // A run that has done so many trials, and the page after.
+                let mut record = vec![count];
+                let page = self.ask_next(kind, (plan, &good), &ticket.after(count), &mut record, limits)?;
+                self.ask_next(kind, (plan, &good), &page.ticket, &mut record, limits)?;
+            }
+        }
+        Ok(())
+    }
+
+    /// Lists of page calls that bring any ticket of their run, with others among them, from the fresh start to a second one.
+    fn runs(&mut self, plan: &Plan) -> Outcome {
+        let (kind, good) = ("runs", order(plan));
+        let mut tablet = Tablet { given: Vec::new(), record: cells_u64(1) };
+        let other = self.seeds.plan(plan.shape.k as usize, 6);
+        let others = tickets(&other);
+        for _ in 0..2 {
+            let earlier = tablet.given.last().copied();
+            let fresh = self.ask_start(kind, plan, &good, &mut tablet.record)?;
+            tablet.given = vec![fresh];
+            // The last ticket of the run before, which had ended, with this run's record.
+            if let Some(ticket) = earlier {
+                self.bring(plan, &good, &ticket, &mut tablet)?;
+            }
+            for _ in 0..6 {
+                let mut limits = self.limits(plan, length(plan));
+                limits.0 = limits.0.min(1 + length(plan) as u32 / 3);
+                let page = self.ask_next(kind, (plan, &good), &tablet.last(), &mut tablet.record, limits)?;
+                tablet.given.push(page.ticket);
+                self.interrupt(plan, &good, &others, &mut tablet)?;
+            }
+            let last = tablet.last();
+            let page =
+                self.ask_next(kind, (plan, &good), &last, &mut tablet.record, (u32::MAX, 1_000_000))?;
+            tablet.given.push(page.ticket);
+            for screens in [0, 1, 2, 3, tablet.given.len()] {
+                let ticket = tablet.back(screens);
+                self.bring(plan, &good, &ticket, &mut tablet)?;
+            }
+        }
+        Ok(())
+    }
+
+    /// Calls between two screens: earlier tickets of the run, tickets of other runs, and refused calls that bring the run's record or any other.
+    fn interrupt(&mut self, plan: &Plan, good: &[u32], others: &[Ticket], tablet: &mut Tablet) -> Outcome {
+        let (kind, limits) = ("runs", self.limits(plan, 20));
+        let screens = self.seeds.pick(&[1, 1, 2, 3, 5, 100]);
+        let back = tablet.back(screens);
+        let last = tablet.last();
+        match self.seeds.below(8) {
+            0..=2 => self.bring(plan, good, &back, tablet),
+            3 => {
+                // With another plan.
+                let (mut damaged, mut aside) = (plan.clone(), tablet.clone());
+                let way = self.seeds.below(DAMAGES);
+                self.seeds.damage_plan(&mut damaged, way);
+                self.bring(&damaged, good, &back, &mut aside)
+            }
+            4 => {
+                // A ticket of another run, which has done as many trials.
+                let same = others.get(last.count as usize).copied();
+                let ticket = same.unwrap_or_else(|| Ticket::ENDED.after(last.count));
+                let mut record = tablet.record.clone();
+                self.ask_next(kind, (plan, good), &ticket, &mut record, limits).map(drop)
+            }
+            5 => {
+                let (ticket, mut record) = (self.seeds.any_ticket(), tablet.record.clone());
+                self.ask_next(kind, (plan, good), &ticket, &mut record, limits).map(drop)
+            }
+            6 => {
+                let (order, mut record) = ([good, &[0]].concat(), tablet.record.clone());
+                self.ask_next(kind, (plan, &order), &last, &mut record, limits)?;
+                self.ask_start(kind, plan, &order, &mut tablet.record).map(drop)
+            }
+            _ => {
+                let mut record = self.seeds.other_record(&last);
+                self.ask_next(kind, (plan, good), &last, &mut record, limits).map(drop)
+            }
+        }
+    }
+
+    /// A call of the list that brings some ticket, with the run's own record. Where it is one of the run: "one with another count is refused, and one with
+    /// the same count equals the last one".
+    fn bring(&mut self, plan: &Plan, good: &[u32], ticket: &Ticket, tablet: &mut Tablet) -> Outcome {
+        let (kind, k) = ("runs", plan.shape.k.clamp(2, 6) as usize);
+        let limits = (self.seeds.budget(20), self.seeds.table_length(k));
+        let page = self.ask_next(kind, (plan, good), ticket, &mut tablet.record, limits)?;
+        let accepted = !matches!(page.stop, Stop::Refused(_));
+        if tablet.given.contains(ticket) {
+            let last = tablet.last();
+            let holds = if ticket.count == last.count { *ticket == last } else { !accepted };
+            if !holds {
+                let shown = format!("{plan:?}\n{ticket:?}, the last one {last:?}\n{page:?}");
+                return Err(self.difference(kind, shown));
+            }
+        }
+        if accepted {
+            tablet.given.push(page.ticket);
+        }
+        Ok(())
+    }
+}
+
 // ---------------------------------------------------------------- large plans
 
 impl Bench<'_> {
@@ -1113,7 +1311,7 @@ impl Bench<'_> {
             let limits = (self.seeds.below(length / 2 + 1) as u32, 20_000);
             ticket = self.ask_page(kind, plan, good, &ticket, limits)?.ticket;
         }
-        let field = self.seeds.below(10);
+        let field = self.seeds.below(FIELDS);
         let damaged = self.seeds.damage_ticket(&ticket, field);
         self.ask_page(kind, plan, good, &damaged, (5, 100))?;
         self.ask_page(kind, plan, good, &ticket, (u32::MAX, 1_000_000)).map(drop)

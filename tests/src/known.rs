@@ -1,7 +1,7 @@
 //! Calls and reports whose answers the paper gives, in plain numbers and bytes: every overlay is held to them.
 
 use crate::call::{Answer, Call, Plan};
-use crate::overlay::{PairTold, Reading, RowTold, Shape, Writing};
+use crate::overlay::{Page, PairTold, Reading, RowTold, Shape, Stop, Ticket, Writing};
 use crate::seeds::spell;
 
 /// The cells of plan D: two rectangles, and one that overlaps the first and touches the second.
@@ -190,6 +190,96 @@ pub fn known_margins() -> Vec<KnownCall> {
             grown(Plan { shape: shaped(2, 1, 0).shape, cells: vec![-3, -2, 5, 4] }, &[1_500, 20]),
             two,
         ),
+    ]
+}
+
+/// The ticket of a trial of two layers, after so many trials.
+fn ticket(layer: u32, place: u32, next: u32, count: u64) -> Ticket {
+    Ticket { ended: false, layer, place, filled: 0, chosen: [0; 5], next, count }
+}
+
+/// Ended after so many trials.
+fn ended(count: u64) -> Ticket {
+    Ticket { ended: true, layer: 0, place: 0, filled: 0, chosen: [0; 5], next: 0, count }
+}
+
+/// A fresh start on plan D with an order: its number, the ticket, and the record before and afterwards.
+fn start(name: &'static str, order: &[u32], told: (u32, Ticket), records: (&[u64], &[u64])) -> KnownCall {
+    let call = |record: &[u64]| Call::Fresh {
+        plan: shaped(2, 2, 1),
+        order: order.to_vec(),
+        record: record.to_vec(),
+    };
+    KnownCall { name, call: call(records.0), answer: Answer::Fresh(told.0, told.1), after: call(records.1) }
+}
+
+/// A page call on plan D with budget 2 and a table of four cells that are all 7: its ticket and record, and what it tells and leaves: the stop, the rows, how
+/// many trials, the area, the ticket and the record.
+fn paged(
+    name: &'static str,
+    brought: (Ticket, &[u64]),
+    told: (Stop, &[u32], u32, u64, Ticket),
+    after: &[u64],
+) -> KnownCall {
+    let (stop, rows, trials, area, ticket) = told;
+    let call = |record: &[u64], rows: &[u32]| {
+        let mut table = vec![7; 4];
+        table[..rows.len()].copy_from_slice(rows);
+        let (plan, order, record) = (shaped(2, 2, 1), vec![0, 2, 1], record.to_vec());
+        Call::Page { plan, order, ticket: brought.0, record, budget: 2, table }
+    };
+    let page = Page { stop, rows: rows.len() as u32 / 2, trials, area, ticket };
+    KnownCall { name, call: call(brought.1, &[]), answer: Answer::Page(page), after: call(after, rows) }
+}
+
+/// A page call on plan D that is refused: it gives its ticket back, and leaves its record.
+fn refused(name: &'static str, brought: (Ticket, &[u64]), number: u32) -> KnownCall {
+    paged(name, brought, (Stop::Refused(number), &[], 0, 0, brought.0), brought.1)
+}
+
+/// Runs on plan D, whose walk has four trials: tickets with their counts, run records, and each side of check 18.
+pub fn known_tickets() -> Vec<KnownCall> {
+    let (good, none) = ([0, 2, 1], ended(0));
+    let most = (1 << 57) - 1;
+    let fresh = ticket(1, 0, 0, 0);
+    let second = ticket(2, 0, 1, 2);
+    vec![
+        start("a fresh start", &good, (0, fresh), (&[9], &[0])),
+        start("a fresh start on a record of 2^64 - 1", &good, (0, fresh), (&[u64::MAX], &[0])),
+        start("a fresh start without a record", &good, (18, none), (&[], &[])),
+        start("a fresh start on a record of two cells", &good, (18, none), (&[0, 0], &[0, 0])),
+        start("5 before 18", &[0, 1, 2], (5, none), (&[], &[])),
+        start("a fresh start that 5 refuses", &[0, 1, 2], (5, none), (&[9], &[9])),
+        paged("the first page", (fresh, &[0]), (Stop::Spent, &[0, 0], 2, 250_000, second), &[2]),
+        paged("the second page", (second, &[2]), (Stop::Ended, &[1, 0], 2, 0, ended(4)), &[4]),
+        paged("a page after the end", (ended(4), &[4]), (Stop::Ended, &[], 0, 0, ended(4)), &[4]),
+        refused("the first ticket after the first page", (fresh, &[2]), 18),
+        refused("the first ticket after the end", (fresh, &[4]), 18),
+        refused("the second ticket after the end", (second, &[4]), 18),
+        refused("the second ticket after another fresh start", (second, &[0]), 18),
+        refused("an old Ended after another fresh start", (ended(4), &[0]), 18),
+        refused("an Ended without its count", (ended(0), &[4]), 18),
+        refused("a record without cells", (fresh, &[]), 18),
+        refused("a record of two cells", (fresh, &[0, 0]), 18),
+        refused("a count of 2^32 on a record of 0", (fresh.after(1 << 32), &[0]), 18),
+        refused("a count of 1 on a record of 2^32 + 1", (fresh.after(1), &[(1 << 32) + 1]), 18),
+        refused("a record of 2^57", (second.after(most + 1), &[most + 1]), 18),
+        refused("a record of 2^64 - 1", (ended(u64::MAX), &[u64::MAX]), 18),
+        refused("6 before 18", (ticket(3, 0, 0, 0), &[2]), 6),
+        refused("6 before 18 without a record", (ticket(1, 2, 0, 0), &[]), 6),
+        paged(
+            "the same place after nine trials, which 6 leaves aside",
+            (fresh.after(9), &[9]),
+            (Stop::Spent, &[0, 0], 2, 250_000, second.after(11)),
+            &[11],
+        ),
+        paged(
+            "a record of 2^57 - 1",
+            (second.after(most), &[most]),
+            (Stop::Ended, &[1, 0], 2, 0, ended(most + 2)),
+            &[most + 2],
+        ),
+        refused("the page after it", (ended(most + 2), &[most + 2]), 18),
     ]
 }
 

@@ -13,7 +13,7 @@ impl Shape {
     pub const NONE: Shape = Shape { k: 0, sizes: [0; 6], margins: [0; 6] };
 }
 
-/// The trial due next, or Ended with all else 0.
+/// The trial due next, or Ended with all else 0; and the trials that its run has done so far.
 #[derive(Clone, Copy, Debug, PartialEq, Eq)]
 pub struct Ticket {
     pub ended: bool,
@@ -22,11 +22,18 @@ pub struct Ticket {
     pub filled: u32,
     pub chosen: [u32; 5],
     pub next: u32,
+    pub count: u64,
 }
 
 impl Ticket {
-    /// Ended in its one form.
-    pub const ENDED: Ticket = Ticket { ended: true, layer: 0, place: 0, filled: 0, chosen: [0; 5], next: 0 };
+    /// Ended in its one form, before any trial.
+    pub const ENDED: Ticket =
+        Ticket { ended: true, layer: 0, place: 0, filled: 0, chosen: [0; 5], next: 0, count: 0 };
+
+    /// The same ticket after so many trials.
+    pub fn after(self, count: u64) -> Ticket {
+        Ticket { count, ..self }
+    }
 }
 
 /// Why a page call stopped.
@@ -95,15 +102,16 @@ pub trait Overlay {
     fn row(&self, shape: &Shape, cells: &[i32], row: &[u32]) -> RowTold;
     /// Tells the first pair of layers whose rectangles at the places do not meet.
     fn pair(&self, shape: &Shape, cells: &[i32], places: &[u32]) -> PairTold;
-    /// Gives the ticket of the first trial.
-    fn fresh(&self, shape: &Shape, cells: &[i32], order: &[u32]) -> (u32, Ticket);
-    /// Does trials from a ticket on, within a budget and a table.
+    /// Gives the ticket of the first trial, and begins a run in its record.
+    fn fresh(&self, shape: &Shape, cells: &[i32], order: &[u32], record: &mut [u64]) -> (u32, Ticket);
+    /// Does trials from a ticket on, within a budget and a table, and counts them in the run's record.
     fn page(
         &self,
         shape: &Shape,
         cells: &[i32],
         order: &[u32],
         ticket: &Ticket,
+        record: &mut [u64],
         budget: u32,
         table: &mut [u32],
     ) -> Page;

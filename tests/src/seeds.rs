@@ -13,6 +13,9 @@ pub const STYLES: u64 = 11;
 /// How many ways there are to damage a plan.
 pub const DAMAGES: u64 = 11;
 
+/// How many fields of a ticket there are to damage.
+pub const FIELDS: u64 = 11;
+
 /// Coordinates at the ends of the range and about 0.
 const EXTREMES: [i32; 9] = [-1_000_000, -999_999, -999_998, -1, 0, 1, 999_998, 999_999, 1_000_000];
 
@@ -298,7 +301,31 @@ impl Seeds {
         }
     }
 
-    /// Changes one field of a ticket: 0 Ended, 1 layer, 2 place, 3 filled, 4 next, 5 to 9 chosen.
+    /// A count near another, far from it, about 2^57, or the same but for one half of its bits.
+    pub fn near_count(&mut self, count: u64) -> u64 {
+        match self.below(7) {
+            0 => count.wrapping_sub(1),
+            1 => count.wrapping_add(1),
+            2 => 0,
+            3 => count ^ 1 << 32,
+            4 => count << 32 | count >> 32,
+            5 => self.below(40),
+            _ => self.pick(&[(1 << 57) - 1, 1 << 57, 1 << 63, u64::MAX, 1 << 32, (1 << 32) - 1]),
+        }
+    }
+
+    /// A run record that is not the ticket's: of another length, or with another count.
+    pub fn other_record(&mut self, ticket: &Ticket) -> Vec<u64> {
+        let count = ticket.count;
+        match self.below(5) {
+            0 => Vec::new(),
+            1 => vec![count; 2],
+            2 => vec![count, 0, 0],
+            _ => vec![self.near_count(count)],
+        }
+    }
+
+    /// Changes one field of a ticket: 0 Ended, 1 layer, 2 place, 3 filled, 4 next, 5 to 9 chosen, 10 the count.
     pub fn damage_ticket(&mut self, ticket: &Ticket, field: u64) -> Ticket {
         let mut out = *ticket;
         match field {
@@ -307,6 +334,7 @@ impl Seeds {
             2 => out.place = self.near(out.place),
             3 => out.filled = self.near(out.filled),
             4 => out.next = self.near(out.next),
+            10 => out.count = self.near_count(out.count),
             _ => out.chosen[field as usize - 5] = self.near(out.chosen[field as usize - 5]),
         }
         out
@@ -321,6 +349,7 @@ impl Seeds {
             filled: self.below(3) as u32,
             chosen: [0; 5],
             next: self.below(3) as u32,
+            count: self.pick(&[0, 0, 1, 2, 5, 1 << 40]),
         };
         for cell in ticket.chosen.iter_mut().take(ticket.filled as usize) {
             *cell = self.below(3) as u32;
@@ -369,9 +398,10 @@ pub fn length(plan: &Plan) -> u64 {
     walk_length(&layers_of(&plan.shape, &plan.cells))
 }
 
-/// The tickets of a sound plan's trials in turn.
+/// The tickets of a sound plan's trials in turn, each with the count that a run has when the trial is due.
 pub fn tickets(plan: &Plan) -> Vec<Ticket> {
-    trials_by(&layers_of(&plan.shape, &plan.cells), passes).iter().map(|trial| trial.ticket).collect()
+    let trials = trials_by(&layers_of(&plan.shape, &plan.cells), passes);
+    trials.iter().zip(0..).map(|(trial, count)| trial.ticket.after(count)).collect()
 }
 
 /// The text of a sound plan.

@@ -3,8 +3,9 @@
 use crate::overlay::{Overlay, Page, PairTold, Reading, RowTold, Run, Shape, Stop, Ticket, Writing};
 use crate::reference::{
     bad_places, count_rows, first_of, grow, intersection, is_empty, join, layers_of, line_of, page_from,
-    pairs, passes, plan_fault, position, rects_at, refused_pair, refused_run, report, square_metres,
-    sweep_order, takes, text_of, ticket_at, trials_by, ungrown, Layers, Line, Passes, Rect, Rules, REFERENCE,
+    pairs, passes, plan_fault, position, rects_at, refused_page, refused_pair, refused_run, report,
+    square_metres, stale, sweep_order, takes, text_of, ticket_at, trials_by, ungrown, Layers, Line, Passes,
+    Rect, Rules, REFERENCE, TOO_MANY,
 };
 
 /// The slips.
@@ -89,10 +90,41 @@ pub enum Slip {
     MarginCut,
     MarginSignLost,
     MarginNine,
+    CountBelieved,
+    OlderTaken,
+    NewerTaken,
+    LowHalfCompared,
+    HighHalfCompared,
+    EndedUncounted,
+    RecordMissing,
+    RecordTooLong,
+    LimitNarrow,
+    LimitWide,
+    LimitIgnored,
+    LimitOfNewCount,
+    EighteenBeforeSix,
+    EighteenBeforeFive,
+    EighteenFirst,
+    SixCounts,
+    RecordAfterSix,
+    RecordAfterEighteen,
+    RecordNotWritten,
+    CountBehind,
+    CountOfPage,
+    CountNarrow,
+    CountLostAtEnd,
+    RefusalCount,
+    FreshLeavesRecord,
+    FreshRecordTooLong,
+    FreshRecordMissing,
+    FreshEighteenFirst,
+    FreshRefusalRecord,
+    FreshOldCount,
+    FreshEighteenGoing,
 }
 
 /// Every slip with its description.
-pub const SLIPS: [(Slip, &str); 79] = [
+pub const SLIPS: [(Slip, &str); 110] = [
     (Slip::TiesTwice, "guards chosen with <= on both sides, so ties list a row twice"),
     (Slip::OpenEdges, "open edges"),
     (Slip::SpentAtEnd, "Spent reported where the last trial ended the walk"),
@@ -172,6 +204,37 @@ pub const SLIPS: [(Slip, &str); 79] = [
     (Slip::MarginCut, "a margin above 50,000 in a text read as 50,000"),
     (Slip::MarginSignLost, "the minus of a margin in a text passed over"),
     (Slip::MarginNine, "9 for a margin in a text that is out of range"),
+    (Slip::CountBelieved, "a ticket's count believed without the record"),
+    (Slip::OlderTaken, "a ticket of fewer trials than the record holds taken"),
+    (Slip::NewerTaken, "a ticket of more trials than the record holds taken"),
+    (Slip::LowHalfCompared, "the lower half of the count alone compared"),
+    (Slip::HighHalfCompared, "the upper half of the count alone compared"),
+    (Slip::EndedUncounted, "Ended taken whatever the record holds"),
+    (Slip::RecordMissing, "a page call without a record taken"),
+    (Slip::RecordTooLong, "a record of more cells read as its first"),
+    (Slip::LimitNarrow, "a record of 2^57 - 1 refused"),
+    (Slip::LimitWide, "a record of 2^57 taken"),
+    (Slip::LimitIgnored, "a record of any count taken"),
+    (Slip::LimitOfNewCount, "a page refused whose new count is 2^57 or more"),
+    (Slip::EighteenBeforeSix, "18 before 6"),
+    (Slip::EighteenBeforeFive, "18 before 5"),
+    (Slip::EighteenFirst, "18 before the causes of the plan"),
+    (Slip::SixCounts, "6 for a ticket whose count is not its trial's place in the walk"),
+    (Slip::RecordAfterSix, "the record written by a page that 6 refuses"),
+    (Slip::RecordAfterEighteen, "the record written by a page that 18 refuses"),
+    (Slip::RecordNotWritten, "the record left by an accepted page"),
+    (Slip::CountBehind, "a ticket with the count of the one before"),
+    (Slip::CountOfPage, "the trials of a page for those of its run"),
+    (Slip::CountNarrow, "counts kept in 32 bits"),
+    (Slip::CountLostAtEnd, "the count not carried into Ended"),
+    (Slip::RefusalCount, "a refused page giving its ticket back with the record's count"),
+    (Slip::FreshLeavesRecord, "a fresh start that leaves the record"),
+    (Slip::FreshRecordTooLong, "a fresh start on a record of more cells taken"),
+    (Slip::FreshRecordMissing, "a fresh start without a record taken"),
+    (Slip::FreshEighteenFirst, "18 of a fresh start before 5"),
+    (Slip::FreshRefusalRecord, "the record written by a refused fresh start"),
+    (Slip::FreshOldCount, "a fresh ticket with the count that the record held"),
+    (Slip::FreshEighteenGoing, "the first trial told by a fresh start that 18 refuses"),
 ];
 
 /// The reference with one slip.
@@ -366,7 +429,8 @@ fn without_chosen(shape: &Shape, cells: &[i32], ticket: &Ticket) -> Option<Ticke
     let bare = |ticket: &Ticket| (ticket.ended, ticket.layer, ticket.place, ticket.filled, ticket.next);
     let list = trials_by(&layers_of(shape, cells), passes);
     let found = list.iter().map(|trial| trial.ticket).find(|trial| bare(trial) == bare(ticket))?;
-    ticket.chosen.iter().skip(ticket.filled as usize).all(|&cell| cell == 0).then_some(found)
+    let unfilled = ticket.chosen.iter().skip(ticket.filled as usize).all(|&cell| cell == 0);
+    unfilled.then_some(found.after(ticket.count))
 }
 
 /// The same, but only where each chosen place passes with the guard alone.
@@ -391,7 +455,7 @@ fn after_last(shape: &Shape, cells: &[i32], ticket: &Ticket) -> Option<Ticket> {
     }
     let list = trials_by(&layers_of(shape, cells), passes);
     let at = position(&list, &Ticket { next: ticket.next - 1, ..*ticket })?;
-    Some(ticket_at(&list, at + 1))
+    Some(ticket_at(&list, at + 1).after(ticket.count))
 }
 
 /// The highest layer whose rectangle has the common left.
@@ -454,7 +518,7 @@ fn full_late(shape: &Shape, cells: &[i32], page: Page, budget: u32) -> Page {
     let at = position(&list, &page.ticket).unwrap_or(list.len());
     let idle = list[at..].iter().take_while(|trial| !trial.yields).count();
     let more = idle.min((budget - page.trials) as usize);
-    let ticket = ticket_at(&list, at + more);
+    let ticket = ticket_at(&list, at + more).after(page.ticket.count + more as u64);
     let stop = if ticket.ended { Stop::Ended } else { Stop::Full };
     Page { stop, trials: page.trials + more as u32, ticket, ..page }
 }
@@ -469,7 +533,7 @@ fn ended_early(shape: &Shape, cells: &[i32], page: Page) -> Page {
     if list[at..].iter().any(|trial| trial.yields) {
         return page;
     }
-    Page { stop: Stop::Ended, ticket: Ticket::ENDED, ..page }
+    Page { stop: Stop::Ended, ticket: Ticket::ENDED.after(page.ticket.count), ..page }
 }
 
 /// Writes the RECT lines of a refused text as far as they can be read.
@@ -509,8 +573,8 @@ fn eight_digits_cut(text: &[u8]) -> Vec<u8> {
 /// A page that goes on past 1,000,000 rows where its table has more cells.
 fn cap_ignored(plan: (&Shape, &[i32]), order: &[u32], page: Page, budget: u32, table: &mut [u32]) -> Page {
     let filled = page.rows as usize * plan.0.k as usize;
-    let more =
-        REFERENCE.page_by(passes, plan, order, &page.ticket, budget - page.trials, &mut table[filled..]);
+    let brought = (&page.ticket, &mut [page.ticket.count][..]);
+    let more = REFERENCE.page_by(passes, plan, order, brought, budget - page.trials, &mut table[filled..]);
     Page {
         rows: page.rows + more.rows,
         trials: page.trials + more.trials,
@@ -526,7 +590,7 @@ impl Wrong {
             Slip::ChosenBelieved => without_chosen(shape, cells, ticket),
             Slip::ChosenLoose => loosely_chosen(shape, cells, ticket),
             Slip::NextAtSize => after_last(shape, cells, ticket),
-            Slip::EndedLoose => ticket.ended.then_some(Ticket::ENDED),
+            Slip::EndedLoose => ticket.ended.then_some(Ticket::ENDED.after(ticket.count)),
             Slip::UnfilledBelieved => {
                 let mut bare = *ticket;
                 bare.chosen.iter_mut().skip(ticket.filled as usize).for_each(|cell| *cell = 0);
@@ -590,6 +654,100 @@ impl Wrong {
             return Run { rows: count_rows(&layers) as u32, ..refused_run(7) };
         }
         refused_run(7)
+    }
+}
+
+/// The slips of counts and run records (02, Q-5).
+impl Wrong {
+    /// The record as a page call takes it, and how much less than it says the ticket's count is then.
+    fn taken(&self, record: &[u64], ticket: &Ticket) -> (Vec<u64>, u64) {
+        let (one, count) = (record.len() == 1, ticket.count);
+        let held = record.first().copied().unwrap_or(0);
+        let believed = match self.0 {
+            Slip::CountBelieved => one,
+            Slip::OlderTaken => one && count < held,
+            Slip::NewerTaken => one && held < count,
+            Slip::LowHalfCompared => one && held as u32 == count as u32,
+            Slip::HighHalfCompared => one && held >> 32 == count >> 32,
+            Slip::EndedUncounted => one && ticket.ended,
+            Slip::RecordMissing => record.is_empty(),
+            Slip::RecordTooLong => record.len() > 1 && held == count,
+            _ => false,
+        };
+        match self.0 {
+            Slip::LimitNarrow if held == TOO_MANY - 1 => (Vec::new(), 0),
+            Slip::LimitWide if one && held == TOO_MANY && count == TOO_MANY => (vec![0], count),
+            Slip::LimitIgnored if one && held == count => (vec![0], count),
+            _ if believed => (vec![count], 0),
+            _ => (record.to_vec(), 0),
+        }
+    }
+
+    /// The slips of a refused page: what it leaves in the record, and the ticket that it gives back.
+    fn slip_uncounted(&self, number: u32, ticket: &Ticket, record: &mut [u64], page: Page) -> Page {
+        let written = match self.0 {
+            Slip::RecordAfterSix => number == 6,
+            Slip::RecordAfterEighteen => number == 18,
+            _ => false,
+        };
+        let held = record.first().copied().unwrap_or(0);
+        if written {
+            record.iter_mut().for_each(|cell| *cell = ticket.count);
+        }
+        match self.0 {
+            Slip::RefusalCount => Page { ticket: ticket.after(held), ..page },
+            Slip::TicketLost => page,
+            _ => Page { ticket: *ticket, ..page },
+        }
+    }
+
+    /// The slips of an accepted page: the count in the record and in the ticket.
+    fn slip_counted(&self, ticket: &Ticket, record: &mut [u64], count: u64, page: Page) -> Page {
+        let trials = u64::from(page.trials);
+        let (kept, told) = match self.0 {
+            Slip::RecordNotWritten => (ticket.count, count),
+            Slip::CountBehind => (count, ticket.count),
+            Slip::CountOfPage => (trials, trials),
+            Slip::CountNarrow => (u64::from(count as u32), u64::from(count as u32)),
+            Slip::CountLostAtEnd if page.ticket.ended => (count, 0),
+            _ => (count, count),
+        };
+        record.iter_mut().take(1).for_each(|cell| *cell = kept);
+        Page { ticket: page.ticket.after(told), ..page }
+    }
+
+    /// The page call with all other slips.
+    fn walked(
+        &self,
+        plan: (&Shape, &[i32]),
+        order: &[u32],
+        (ticket, record): (&Ticket, &mut [u64]),
+        budget: u32,
+        table: &mut [u32],
+    ) -> Page {
+        let (shape, cells) = plan;
+        let by_left = self.0 == Slip::OrderByLeft && only_by_left(shape, cells, order);
+        let good = if by_left { sweep_order(&layers_of(shape, cells)) } else { order.to_vec() };
+        let (rules, more) = (rules_of(self.0), budget.saturating_add(1));
+        let page = match self.0 {
+            Slip::TiesTwice => rules.page_by(ties_twice, plan, order, (ticket, record), budget, table),
+            Slip::OpenEdges => rules.page_by(open_edges, plan, order, (ticket, record), budget, table),
+            Slip::BudgetPassed => rules.page_by(passes, plan, order, (ticket, record), more, table),
+            _ => rules.page_by(passes, plan, &good, (ticket, record), budget, table),
+        };
+        if page.stop == Stop::Refused(6) {
+            if let Some(believed) = self.believed(shape, cells, ticket) {
+                let told = rules.page_by(passes, plan, order, (&believed, record), budget, table);
+                return if told.stop == page.stop { page } else { told };
+            }
+        }
+        match page.stop {
+            Stop::Full if self.0 == Slip::PageCapIgnored && page.rows == 1_000_000 => {
+                cap_ignored(plan, order, page, budget, table)
+            }
+            Stop::Refused(_) => self.slip_refused(page, table),
+            _ => self.slip_accepted(shape, cells, page, budget, table),
+        }
     }
 }
 
@@ -668,48 +826,71 @@ impl Overlay for Wrong {
     }
 
     /// The fresh-ticket call with its slips.
-    fn fresh(&self, shape: &Shape, cells: &[i32], order: &[u32]) -> (u32, Ticket) {
-        if self.0 == Slip::OrderPrefix && plan_fault(shape, cells) == 0 {
-            return REFERENCE.fresh(shape, cells, &order[..order.len().min(cells.len() / 4)]);
+    fn fresh(&self, shape: &Shape, cells: &[i32], order: &[u32], record: &mut [u64]) -> (u32, Ticket) {
+        let held = record.first().copied().unwrap_or(0);
+        let fault = REFERENCE.order_fault(shape, cells, order);
+        let taken = match self.0 {
+            Slip::OrderPrefix if plan_fault(shape, cells) == 0 => {
+                return REFERENCE.fresh(shape, cells, &order[..order.len().min(cells.len() / 4)], record);
+            }
+            Slip::FreshEighteenFirst if record.len() != 1 => return (18, Ticket::ENDED),
+            Slip::FreshRecordTooLong => record.len().min(1),
+            Slip::FreshRecordMissing if record.is_empty() => {
+                return REFERENCE.fresh(shape, cells, order, &mut [0]);
+            }
+            _ => record.len(),
+        };
+        let (number, ticket) = rules_of(self.0).fresh(shape, cells, order, &mut record[..taken]);
+        match self.0 {
+            Slip::FreshRefusalGoing if number != 0 => return (number, Ticket { ended: false, ..ticket }),
+            Slip::FreshLeavesRecord if number == 0 => record[0] = held,
+            Slip::FreshRefusalRecord if number != 0 => record.iter_mut().for_each(|cell| *cell = 0),
+            Slip::FreshOldCount if number == 0 => return (number, ticket.after(held)),
+            Slip::FreshEighteenGoing if number == 18 && fault == 0 => {
+                return (number, REFERENCE.fresh(shape, cells, order, &mut [0]).1);
+            }
+            _ => {}
         }
-        let (number, ticket) = rules_of(self.0).fresh(shape, cells, order);
-        let going = self.0 == Slip::FreshRefusalGoing && number != 0;
-        (number, Ticket { ended: ticket.ended && !going, ..ticket })
+        (number, ticket)
     }
 
-    /// The page call with its slips.
+    /// The page call with its slips: those of counts and records around all others.
     fn page(
         &self,
         shape: &Shape,
         cells: &[i32],
         order: &[u32],
         ticket: &Ticket,
+        record: &mut [u64],
         budget: u32,
         table: &mut [u32],
     ) -> Page {
-        let plan = (shape, cells);
-        let by_left = self.0 == Slip::OrderByLeft && only_by_left(shape, cells, order);
-        let good = if by_left { sweep_order(&layers_of(shape, cells)) } else { order.to_vec() };
-        let rules = rules_of(self.0);
-        let page = match self.0 {
-            Slip::TiesTwice => rules.page_by(ties_twice, plan, order, ticket, budget, table),
-            Slip::OpenEdges => rules.page_by(open_edges, plan, order, ticket, budget, table),
-            Slip::BudgetPassed => rules.page_by(passes, plan, order, ticket, budget.saturating_add(1), table),
-            _ => rules.page_by(passes, plan, &good, ticket, budget, table),
+        let (plan, before) = ((shape, cells), table.to_vec());
+        let early = match self.0 {
+            Slip::EighteenFirst => true,
+            Slip::EighteenBeforeFive => plan_fault(shape, cells) == 0,
+            Slip::EighteenBeforeSix => REFERENCE.order_fault(shape, cells, order) == 0,
+            _ => false,
         };
-        if page.stop == Stop::Refused(6) {
-            if let Some(believed) = self.believed(shape, cells, ticket) {
-                let told = rules.page_by(passes, plan, order, &believed, budget, table);
-                return if told.stop == page.stop { page } else { told };
-            }
+        if early && stale(record, ticket) {
+            return refused_page(18, ticket);
         }
-        match page.stop {
-            Stop::Full if self.0 == Slip::PageCapIgnored && page.rows == 1_000_000 => {
-                cap_ignored(plan, order, page, budget, table)
-            }
-            Stop::Refused(_) => self.slip_refused(page, table),
-            _ => self.slip_accepted(shape, cells, page, budget, table),
+        let (mut taken, shift) = self.taken(record, ticket);
+        let sent = ticket.after(ticket.count.wrapping_sub(shift));
+        let page = self.walked(plan, order, (&sent, &mut taken), budget, table);
+        if let Stop::Refused(number) = page.stop {
+            return self.slip_uncounted(number, ticket, record, page);
         }
+        let list =
+            if self.0 == Slip::SixCounts { trials_by(&layers_of(shape, cells), passes) } else { vec![] };
+        let misplaced =
+            self.0 == Slip::SixCounts && position(&list, ticket).map(|at| at as u64) != Some(ticket.count);
+        let count = taken[0].wrapping_add(shift);
+        if misplaced || (self.0 == Slip::LimitOfNewCount && count >= TOO_MANY) {
+            table.copy_from_slice(&before);
+            return refused_page(if misplaced { 6 } else { 18 }, ticket);
+        }
+        self.slip_counted(ticket, record, count, page)
     }
 
     /// The whole run with its slips.

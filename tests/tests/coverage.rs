@@ -3,7 +3,7 @@
 use overlay_tests::compare::compare;
 use overlay_tests::overlay::{Overlay, Page, PairTold, Reading, RowTold, Run, Shape, Stop, Ticket, Writing};
 use overlay_tests::reference::{
-    join, pairs, rects_at, row_of, share_a_point, sweep_order, ungrown, REFERENCE,
+    join, pairs, rects_at, row_of, share_a_point, sweep_order, ungrown, REFERENCE, TOO_MANY,
 };
 use std::cell::RefCell;
 use std::collections::BTreeMap;
@@ -13,6 +13,20 @@ use std::collections::BTreeMap;
 struct Counting(RefCell<BTreeMap<String, u64>>);
 
 impl Counting {
+    /// Counts a page that 18 refuses, by what is wrong with its record.
+    fn count_stale(&self, ticket: &Ticket, record: &[u64]) {
+        let why = match record {
+            [held] if *held >= TOO_MANY && *held == ticket.count => "a record of 2^57 or more",
+            [held] if ticket.ended && ticket.count > *held => "an Ended of an earlier run",
+            [held] if ticket.ended && ticket.count < *held => "an Ended of too few trials",
+            [held] if ticket.count < *held => "an earlier ticket",
+            [_] => "a ticket of more trials",
+            [] => "no record",
+            _ => "a record of more cells",
+        };
+        self.count(format!("page 18 for {why}"));
+    }
+
     /// Counts one outcome.
     fn count(&self, outcome: String) {
         *self.0.borrow_mut().entry(outcome).or_default() += 1;
@@ -23,6 +37,15 @@ impl Counting {
         self.count(format!("page {:?}", page.stop));
         if matches!(page.stop, Stop::Refused(_)) {
             return;
+        }
+        if page.ticket.ended && page.ticket.count > 0 {
+            self.count("page Ended with a count".into());
+        }
+        if page.ticket.count >= TOO_MANY {
+            self.count("page that passes 2^57".into());
+        }
+        if page.ticket.count - u64::from(page.trials) == TOO_MANY - 1 {
+            self.count("page from 2^57 - 1 on".into());
         }
         self.count(format!("page {:?} k {}", page.stop, shape.k));
         let full = page.rows > 0 && page.rows as usize == table / shape.k as usize;
@@ -78,8 +101,8 @@ impl Overlay for Counting {
         told
     }
 
-    fn fresh(&self, shape: &Shape, cells: &[i32], order: &[u32]) -> (u32, Ticket) {
-        let (number, ticket) = REFERENCE.fresh(shape, cells, order);
+    fn fresh(&self, shape: &Shape, cells: &[i32], order: &[u32], record: &mut [u64]) -> (u32, Ticket) {
+        let (number, ticket) = REFERENCE.fresh(shape, cells, order, record);
         self.count(format!("fresh {number} ended {}", ticket.ended));
         (number, ticket)
     }
@@ -90,11 +113,15 @@ impl Overlay for Counting {
         cells: &[i32],
         order: &[u32],
         ticket: &Ticket,
+        record: &mut [u64],
         budget: u32,
         table: &mut [u32],
     ) -> Page {
-        let page = REFERENCE.page(shape, cells, order, ticket, budget, table);
+        let page = REFERENCE.page(shape, cells, order, ticket, record, budget, table);
         self.count_page(shape, &page, budget, table.len());
+        if page.stop == Stop::Refused(18) {
+            self.count_stale(ticket, record);
+        }
         page
     }
 
@@ -143,9 +170,22 @@ fn outcomes() -> Vec<String> {
     all.extend([1, 2, 17, 3, 4].map(|number| format!("row {number} layer 0")));
     all.extend([1, 2, 17, 3, 4, 23].map(|number| format!("pair {number} of 0 and 0")));
     all.extend(pairs(6).iter().map(|(lower, higher)| format!("pair 0 of {} and {}", lower + 1, higher + 1)));
-    all.extend([0, 1, 2, 17, 3, 4, 5].map(|number| format!("fresh {number} ended true")));
+    all.extend([0, 1, 2, 17, 3, 4, 5, 18].map(|number| format!("fresh {number} ended true")));
     all.push("fresh 0 ended false".into());
-    all.extend([1, 2, 17, 3, 4, 5, 6].map(|number| format!("page Refused({number})")));
+    all.extend([1, 2, 17, 3, 4, 5, 6, 18].map(|number| format!("page Refused({number})")));
+    let stale = [
+        "a record of 2^57 or more",
+        "an Ended of an earlier run",
+        "an Ended of too few trials",
+        "an earlier ticket",
+        "a ticket of more trials",
+        "no record",
+        "a record of more cells",
+    ];
+    all.extend(stale.map(|why| format!("page 18 for {why}")));
+    all.extend(
+        ["Ended with a count", "that passes 2^57", "from 2^57 - 1 on"].map(|what| format!("page {what}")),
+    );
     all.extend(["full table", "spent budget"].map(|what| format!("page Ended with a {what}")));
     all.push("page Full with a spent budget".into());
     let grown = ["order", "row", "guard", "area", "pair none", "run with rows"];

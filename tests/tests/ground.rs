@@ -18,15 +18,24 @@ fn run(plan: &Plan, cells: usize) -> (Run, Vec<u32>) {
 
 /// The fresh ticket.
 fn fresh(plan: &Plan) -> Ticket {
-    let (number, ticket) = REFERENCE.fresh(&plan.shape, &plan.cells, &order(plan));
-    assert_eq!(number, 0);
+    let mut record = [77];
+    let (number, ticket) = REFERENCE.fresh(&plan.shape, &plan.cells, &order(plan), &mut record);
+    assert_eq!((number, ticket.count, record), (0, 0, [0]));
     ticket
 }
 
-/// A page into so many cells.
+/// A page into so many cells, by the ticket that its run was given last.
 fn page(plan: &Plan, ticket: &Ticket, budget: u32, cells: usize) -> (Page, Vec<u32>) {
+    let mut record = [ticket.count];
+    let (told, table) = page_in(plan, ticket, &mut record, budget, cells);
+    assert_eq!(record, [told.ticket.count]);
+    (told, table)
+}
+
+/// A page into so many cells, with a run record.
+fn page_in(plan: &Plan, ticket: &Ticket, record: &mut [u64], budget: u32, cells: usize) -> (Page, Vec<u32>) {
     let mut table = vec![77; cells];
-    (REFERENCE.page(&plan.shape, &plan.cells, &order(plan), ticket, budget, &mut table), table)
+    (REFERENCE.page(&plan.shape, &plan.cells, &order(plan), ticket, record, budget, &mut table), table)
 }
 
 /// The number of a reading, and the cells after it.
@@ -55,7 +64,8 @@ fn d_walks_as_said() {
         .iter()
         .map(|trial| trial.ticket)
         .collect();
-    let of = |layer, place, next| Ticket { ended: false, layer, place, filled: 0, chosen: [0; 5], next };
+    let of =
+        |layer, place, next| Ticket { ended: false, layer, place, filled: 0, chosen: [0; 5], next, count: 0 };
     assert_eq!(tickets, [of(1, 0, 0), of(2, 0, 0), of(2, 0, 1), of(1, 1, 0)]);
     assert_eq!(fresh(&plan_d()), of(1, 0, 0));
 }
@@ -67,7 +77,7 @@ fn d_by_budget_two() {
     assert_eq!(table, [0, 0, 77, 77, 77, 77, 77, 77, 77, 77]);
     let (second, table) = page(&plan_d(), &first.ticket, 2, 10);
     assert_eq!((second.stop, second.rows, second.trials, second.area), (Stop::Ended, 1, 2, 0));
-    assert_eq!((second.ticket, &table[..3]), (Ticket::ENDED, &[1, 0, 77][..]));
+    assert_eq!((second.ticket, &table[..3]), (Ticket::ENDED.after(4), &[1, 0, 77][..]));
 }
 
 #[test]
@@ -372,6 +382,60 @@ fn pages_in_any_list_hand_out_the_first_rows() {
         }
         assert_eq!(rows, expected);
     }
+}
+
+#[test]
+fn a_tablet_goes_back_a_screen_on_d() {
+    let (fresh, mut record) = (fresh(&plan_d()), [0]);
+    let (first, _) = page_in(&plan_d(), &fresh, &mut record, 2, 10);
+    assert_eq!((first.ticket.count, record), (2, [2]));
+    let (again, table) = page_in(&plan_d(), &fresh, &mut record, 2, 10);
+    assert_eq!((again.stop, again.ticket, record), (Stop::Refused(18), fresh, [2]));
+    assert_eq!(table, [77; 10]);
+    let (second, _) = page_in(&plan_d(), &first.ticket, &mut record, 9, 10);
+    assert_eq!((second.stop, second.ticket, record), (Stop::Ended, Ticket::ENDED.after(4), [4]));
+    for (ticket, number) in
+        [(fresh, 18), (first.ticket, 18), (Ticket::ENDED, 18), (Ticket::ENDED.after(3), 18)]
+    {
+        assert_eq!(page_in(&plan_d(), &ticket, &mut record, 9, 10).0.stop, Stop::Refused(number));
+    }
+    assert_eq!(page_in(&plan_d(), &second.ticket, &mut record, 0, 0).0.stop, Stop::Ended);
+}
+
+/// "A list of page calls may from then on bring any ticket of its run": what demand 3 says of lists holds of these too.
+#[test]
+fn lists_with_any_ticket_of_their_run_hand_out_the_first_rows() {
+    let (mut seeds, mut stale) = (Seeds(17), 0);
+    for plan in plans() {
+        let layers = layers_of(&plan.shape, &plan.cells);
+        let (length, k) = (walk_length(&layers), plan.shape.k as usize);
+        let expected: Vec<u32> = join(&layers).iter().flat_map(|row| row.places[..k].to_vec()).collect();
+        let (mut given, mut record, mut rows) = (vec![fresh(&plan)], [0], Vec::<u32>::new());
+        let (mut trials, mut working) = (0, 0);
+        for _ in 0..40 {
+            let last = given[given.len() - 1];
+            let ticket = if seeds.once_in(2) { seeds.pick(&given) } else { last };
+            let (budget, cells) = (seeds.budget(length), seeds.table_length(k));
+            let before = record;
+            let (told, table) = page_in(&plan, &ticket, &mut record, budget, cells);
+            if ticket.count != last.count {
+                assert_eq!((told.stop, told.ticket, record), (Stop::Refused(18), ticket, before));
+                stale += 1;
+                continue;
+            }
+            assert_eq!(ticket, last);
+            assert!(!matches!(told.stop, Stop::Refused(_)));
+            rows.extend(&table[..told.rows as usize * k]);
+            trials += u64::from(told.trials);
+            working += u64::from(budget > 0 && cells >= k);
+            given.push(told.ticket);
+            assert_eq!((rows.as_slice(), record), (&expected[..rows.len()], [trials]));
+            assert_eq!(told.ticket.count, trials);
+            assert_eq!(told.stop == Stop::Ended, trials == length);
+            assert!(told.stop == Stop::Ended || working <= length);
+        }
+    }
+    assert!(stale > 1000, "{stale} stale tickets");
 }
 
 #[test]

@@ -1,10 +1,7 @@
 // The calls of the plan overlay for other languages. A slice is a pointer and a length, fixed cells are a pointer, and each call returns the number of
-// a cause, 0 for none. The cells of cursors and answers are laid out by crate `cells` (specs/Cells.antt); include/overlay.h declares the calls for C.
+// a cause, 0 for none. The cells of tickets and answers are laid out by crate `cells` (specs/Cells.antt); include/overlay.h declares the calls for C.
 use cells::covering_kept;
 use cells::covering_number;
-use cells::cursor_after;
-use cells::cursor_cells;
-use cells::cursor_in;
 use cells::order_number;
 use cells::page_cells;
 use cells::pair_cells;
@@ -15,6 +12,9 @@ use cells::run_cells;
 use cells::run_number;
 use cells::stop_number;
 use cells::strip_in;
+use cells::ticket_after;
+use cells::ticket_cells;
+use cells::ticket_in;
 use cells::written_length;
 use cells::written_number;
 use crossings::class_cell;
@@ -23,7 +23,7 @@ use crossings::class_of;
 use nearest::near_cells;
 use nearest::nearest;
 use pager::fetch_page;
-use pager::fresh_cursor;
+use pager::fresh_ticket;
 use pager::run_all;
 use pairs::apart_pair;
 use plan::Shape;
@@ -44,11 +44,11 @@ ghost use Rattle.sweep.specs.Sweep.{orderCause, makeCause, orderAfter};
 ghost use Rattle.rows.specs.RowCall.{rowCall, rowValues};
 ghost use Rattle.pairs.specs.PairCall.{pairCall, pairValues};
 ghost use Rattle.crossings.specs.ClassCall.{classCall, classValues};
-ghost use Rattle.paging.specs.Calls.{freshCall, pageCause, pageCall, pageTable, runCall, runTable, runValues, crossingCall, crossingTable};
+ghost use Rattle.paging.specs.Calls.{freshCall, freshCounter, pageCause, pageCall, pageTable, pageCounter, runCall, runTable, runValues, crossingCall, crossingTable};
 ghost use Rattle.survey.specs.CoverCall.{coverCause, coverAnswer, coverValues, coverAfter};
 ghost use Rattle.text.specs.Reader.{readCause, readAnswer, cellsAfter};
 ghost use Rattle.text.specs.Writer.{writeCause, writeLength, bufferAfter};
-ghost use Rattle.cells.specs.Cells.{shapeOf, cursorCells, cursorIn, pageCells, cursorAfter, runCells, rowCells, acrossIn, upwardIn, pairCells};
+ghost use Rattle.cells.specs.Cells.{shapeOf, ticketCells, ticketIn, pageCells, ticketAfter, runCells, rowCells, acrossIn, upwardIn, pairCells};
 
 // The first of the causes 1 to 4 and 17 that applies to a plan.
 #[no_mangle]
@@ -206,22 +206,24 @@ pub extern "C" fn overlay_apart_pair(
     pair_number(told)
 }
 
-// The cursor of the first probe of a plan's walk.
+// The ticket of the first probe of a plan's walk. A run begins: its counter, the run record, is left with 0.
 #[no_mangle]
-pub extern "C" fn overlay_fresh_cursor(
+pub extern "C" fn overlay_fresh_ticket(
     k: u32,
     sizes: &[u32; 6],
     margins: &[u32; 6],
     cells: &[i32],
     order: &[u32],
-    cursor: &mut [u32; 10],
+    ticket: &mut [u32; 12],
+    counter: &mut [u64],
 ) -> u32
-    ensures number { λ r. ⌜ r ≡ freshCall (shapeOf k (now (sizes .entry)) (now (margins .entry))) (now (cells .entry)) (now (order .entry)) .number ⌝ }
-    ensures cursor { λ _. ⌜ now (cursor .exit) ≡ cursorCells (freshCall (shapeOf k (now (sizes .entry)) (now (margins .entry))) (now (cells .entry)) (now (order .entry)) .cursor) ⌝ }
+    ensures number { λ r. ⌜ r ≡ freshCall (shapeOf k (now (sizes .entry)) (now (margins .entry))) (now (cells .entry)) (now (order .entry)) (now (counter .entry)) .number ⌝ }
+    ensures ticket { λ _. ⌜ now (ticket .exit) ≡ ticketCells (freshCall (shapeOf k (now (sizes .entry)) (now (margins .entry))) (now (cells .entry)) (now (order .entry)) (now (counter .entry)) .ticket) ⌝ }
+    ensures counter { λ _. ⌜ now (counter .exit) ≡ freshCounter (shapeOf k (now (sizes .entry)) (now (margins .entry))) (now (cells .entry)) (now (order .entry)) (now (counter .entry)) ⌝ }
 {
     let six = *sizes;
     let wide = *margins;
-    let fresh = fresh_cursor(
+    let fresh = fresh_ticket(
         Shape {
             k,
             sizes: six,
@@ -229,13 +231,15 @@ pub extern "C" fn overlay_fresh_cursor(
         },
         cells,
         order,
+        counter,
     );
-    let first = fresh.cursor;
-    *cursor = cursor_cells(first);
+    let first = fresh.ticket;
+    *ticket = ticket_cells(first);
     fresh.number
 }
 
-// A page of the walk from a cursor on; the cursor's cells are left with what is due next. The answer's cells: why it stopped, rows, probes, area.
+// A page of the walk from a ticket on; the ticket's cells are left with what is due next, and the counter, the run record, with its count. The answer's cells:
+// why it stopped, rows, probes, area.
 #[no_mangle]
 pub extern "C" fn overlay_fetch_page(
     k: u32,
@@ -243,19 +247,21 @@ pub extern "C" fn overlay_fetch_page(
     margins: &[u32; 6],
     cells: &[i32],
     order: &[u32],
-    cursor: &mut [u32; 10],
+    ticket: &mut [u32; 12],
+    counter: &mut [u64],
     budget: u32,
     table: &mut [u32],
     answer: &mut [u64; 4],
 ) -> u32
-    ensures number { λ r. ⌜ r ≡ pageCause (shapeOf k (now (sizes .entry)) (now (margins .entry))) (now (cells .entry)) (now (order .entry)) (cursorIn (now (cursor .entry))) ⌝ }
-    ensures answer { λ _. ⌜ now (answer .exit) ≡ pageCells (pageCall (shapeOf k (now (sizes .entry)) (now (margins .entry))) (now (cells .entry)) (now (order .entry)) (cursorIn (now (cursor .entry))) budget (now (table .entry))) ⌝ }
-    ensures cursor { λ _. ⌜ now (cursor .exit) ≡ cursorAfter (now (cursor .entry)) (pageCall (shapeOf k (now (sizes .entry)) (now (margins .entry))) (now (cells .entry)) (now (order .entry)) (cursorIn (now (cursor .entry))) budget (now (table .entry))) ⌝ }
-    ensures table { λ _. ⌜ now (table .exit) ≡ pageTable (shapeOf k (now (sizes .entry)) (now (margins .entry))) (now (cells .entry)) (now (order .entry)) (cursorIn (now (cursor .entry))) budget (now (table .entry)) ⌝ }
+    ensures number { λ r. ⌜ r ≡ pageCause (shapeOf k (now (sizes .entry)) (now (margins .entry))) (now (cells .entry)) (now (order .entry)) (ticketIn (now (ticket .entry))) (now (counter .entry)) ⌝ }
+    ensures answer { λ _. ⌜ now (answer .exit) ≡ pageCells (pageCall (shapeOf k (now (sizes .entry)) (now (margins .entry))) (now (cells .entry)) (now (order .entry)) (ticketIn (now (ticket .entry))) (now (counter .entry)) budget (now (table .entry))) ⌝ }
+    ensures ticket { λ _. ⌜ now (ticket .exit) ≡ ticketAfter (now (ticket .entry)) (pageCall (shapeOf k (now (sizes .entry)) (now (margins .entry))) (now (cells .entry)) (now (order .entry)) (ticketIn (now (ticket .entry))) (now (counter .entry)) budget (now (table .entry))) ⌝ }
+    ensures counter { λ _. ⌜ now (counter .exit) ≡ pageCounter (shapeOf k (now (sizes .entry)) (now (margins .entry))) (now (cells .entry)) (now (order .entry)) (ticketIn (now (ticket .entry))) (now (counter .entry)) budget (now (table .entry)) ⌝ }
+    ensures table { λ _. ⌜ now (table .exit) ≡ pageTable (shapeOf k (now (sizes .entry)) (now (margins .entry))) (now (cells .entry)) (now (order .entry)) (ticketIn (now (ticket .entry))) (now (counter .entry)) budget (now (table .entry)) ⌝ }
 {
     let six = *sizes;
     let wide = *margins;
-    let from = cursor_in(cursor);
+    let from = ticket_in(ticket);
     let page = fetch_page(
         Shape {
             k,
@@ -265,11 +271,12 @@ pub extern "C" fn overlay_fetch_page(
         cells,
         order,
         from,
+        counter,
         budget,
         table,
     );
     *answer = page_cells(page);
-    *cursor = cursor_after(cursor, page);
+    *ticket = ticket_after(ticket, page);
     let stop = page.stop;
     stop_number(stop)
 }

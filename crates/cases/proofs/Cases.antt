@@ -19,7 +19,7 @@ use Rattle.join.specs.Table.{same-spot, belongs, tableOf}
 use Rattle.rows.specs.RowCall.{isRow, rowCall}
 use Rattle.walk.specs.Walk.{walkOf}
 use Rattle.paging.specs.Cursors.{sameCursor, resume}
-use Rattle.paging.specs.Calls.{freshCall, pageCause, pageCall, pageTable, runCause, runCall}
+use Rattle.paging.specs.Calls.{current, freshCause, freshCall, freshCounter, cursorCause, pageCause, pageCall, pageTable, pageCounter, runCause, runCall}
 use Rattle.decimal.specs.Numerals.{size, decimal}
 use Rattle.decimal.specs.Bytes.{kindOf}
 use Rattle.decimal.specs.Reading.{number}
@@ -58,15 +58,15 @@ _also_ : {c : Case} {cs : List Case} → Holds c → All Holds cs → All Holds 
 _also_ h hs = _and_ h hs
 
 pub ground-holds : GroundHolds
-unfolding totalOf valueOf maxZ minZ common nonempty meets between held areaOf rectAt grownBy grown fitsAt planCause before sweepOrder orderCause areaIn sameZ same-spot belongs tableOf isRow rowCall walkOf same sameCursor resume freshCall pageCause pageCall pageTable readCause textShape textCells linesOf line number kindOf shapeIn agrees size decimal Lines.lineOf rowFields squareMetres runCause runCall emptyTable reportCause reportOf
+unfolding totalOf valueOf maxZ minZ common nonempty meets between held areaOf rectAt grownBy grown fitsAt planCause before sweepOrder orderCause areaIn sameZ same-spot belongs tableOf isRow rowCall walkOf same sameCursor resume current freshCause freshCall freshCounter cursorCause pageCause pageCall pageTable pageCounter readCause textShape textCells linesOf line number kindOf shapeIn agrees size decimal Lines.lineOf rowFields squareMetres runCause runCall emptyTable reportCause reportOf
 ground-holds =
     (refl, refl, refl)
-    also (refl, refl, refl, refl, refl, refl, (refl, refl, refl, refl, refl, refl, tt))
-    also (refl, refl, refl, refl, refl, refl, (refl, refl, refl, refl, refl, refl, tt))
-    also (refl, refl, refl, refl, refl, refl, tt)
+    also (refl, refl, refl, refl, refl, refl, refl, (refl, refl, refl, refl, refl, refl, refl, tt))
+    also (refl, refl, refl, refl, refl, refl, refl, (refl, refl, refl, refl, refl, refl, refl, tt))
+    also (refl, refl, refl, refl, refl, refl, refl, tt)
     also (refl, refl, refl)
     also (refl, refl, refl)
-    also refl
+    also (refl, refl)
     also (refl, refl, refl)
     also (refl, refl, refl)
     also (refl, refl, refl)
@@ -109,4 +109,12 @@ ground-holds =
     also (refl, refl, refl)
     also (refl, refl, refl)
     also (refl, refl, refl)
+    also refl
+    also refl
+    also refl
+    also refl
+    also refl
+    also refl
+    also refl
+    also refl
     also none-left

@@ -18,10 +18,11 @@ use Rattle.join.specs.Table.{tableOf}
 use Rattle.rows.specs.RowCall.{rowCall, rowValues}
 use Rattle.walk.specs.Walk.{walkOf}
 use Rattle.paging.specs.declared.Cursor.{Cursor}
+use Rattle.paging.specs.declared.Ticket.{Ticket}
 use Rattle.search.specs.declared.Stop.{Stop}
 use Rattle.search.specs.declared.Stop.the-variants.{Ended, Full, Spent}
 use Rattle.paging.specs.Cursors.{endedCursor}
-use Rattle.paging.specs.Calls.{freshCall, pageCall, pageTable}
+use Rattle.paging.specs.Calls.{freshCall, freshCounter, pageCause, pageCall, pageTable, pageCounter}
 use Rattle.text.specs.declared.Reading.{Reading}
 use Rattle.text.specs.Reader.{readAnswer, cellsAfter}
 use Rattle.printing.specs.Lines.{hundredths, squareMetres}
@@ -34,7 +35,7 @@ pub record Told : Type 0 where
   pub places : List ℕ
   pub area : ℕ
 
--- a page call's budget and table, and what it must answer: stop, rows, probes, area, the table afterwards, the cursor
+-- a page call's budget and table, and what it must answer: stop, rows, probes, area, the table afterwards, the ticket
 pub record Turn : Type 0 where
   pub budget : ℕ
   pub table : List ℕ
@@ -43,19 +44,21 @@ pub record Turn : Type 0 where
   pub probes : ℕ
   pub area : ℕ
   pub after : List ℕ
-  pub due : Cursor
+  pub due : Ticket
 
 pub data Case : Type 0 where
   -- a plan is refused with this cause, or with 0 is sound
   Caused : Shape → List ℤ → ℕ → Case
   -- the table of a plan, and its walk's length
   Listed : Shape → List ℤ → List Told → ℕ → Case
-  -- the fresh cursor of a plan
+  -- the cursor of a plan's fresh ticket
   Fresh : Shape → List ℤ → Cursor → Case
   -- a text, lent cells, what the reader must answer, and the cells afterwards
   Read : List ℕ → List ℤ → Reading → List ℤ → Case
-  -- page calls, one after the other, from the fresh cursor on
+  -- page calls, one after the other, from the fresh ticket on
   Paged : Shape → List ℤ → List Turn → Case
+  -- a ticket and a counter, and the cause of a page call that brings them, or 0
+  Judged : Shape → List ℤ → Ticket → List ℕ → ℕ → Case
   -- an area sum, and the square metres that are printed for it
   Rounded : ℕ → List ℕ → Case
   -- a text, and what is printed for it
@@ -65,22 +68,30 @@ pub data Case : Type 0 where
 abbrev pub toldRow : Shape → List ℤ → List ℕ → Told
 toldRow s cells row = let v = rowValues (rowCall s cells row) in record { layer = v .layer; places = row; area = v .area }
 
--- each turn goes on with the cursor that the turn before returned
-abbrev pub Turns : Shape → List ℤ → Cursor → List Turn → Type 0
-Turns s cells c [] = Unit {0}
-Turns s cells c (t ∷ ts) =
-    let p = pageCall s cells (sweepOrder (grown s cells)) c (t .budget) (t .table) in
-    (p .stop ≡ t .stop) × (p .rows ≡ t .rows) × (p .probes ≡ t .probes) × (valueOf (p .area) ≡ t .area)
-    × (pageTable s cells (sweepOrder (grown s cells)) c (t .budget) (t .table) ≡ t .after)
-    × (p .cursor ≡ t .due)
-    × Turns s cells (p .cursor) ts
+-- the ticket of a cursor and a count
+abbrev pub counting : Cursor → ℕ → Ticket
+counting c n = record { cursor = c; count = n }
+
+-- each turn goes on with the ticket and the counter that the turn before left
+abbrev pub Turns : Shape → List ℤ → Ticket → List ℕ → List Turn → Type 0
+Turns s cells t counter [] = Unit {0}
+Turns s cells t counter (x ∷ xs) =
+    let order = sweepOrder (grown s cells) in
+    let p = pageCall s cells order t counter (x .budget) (x .table) in
+    let counted = pageCounter s cells order t counter (x .budget) (x .table) in
+    (p .stop ≡ x .stop) × (p .rows ≡ x .rows) × (p .probes ≡ x .probes) × (valueOf (p .area) ≡ x .area)
+    × (pageTable s cells order t counter (x .budget) (x .table) ≡ x .after)
+    × (p .ticket ≡ x .due)
+    × (counted ≡ x .due .count ∷ [])
+    × Turns s cells (p .ticket) counted xs
 
 abbrev pub Holds : Case → Type 0
 Holds (Caused s cells cause) = planCause s cells ≡ cause
 Holds (Listed s cells rows probes) = (planCause s cells ≡ 0) × (map (toldRow s cells) (tableOf (sizesOf s) (grown s cells)) ≡ rows) × (length (walkOf (sizesOf s) (grown s cells)) ≡ probes)
-Holds (Fresh s cells c) = freshCall s cells (sweepOrder (grown s cells)) ≡ record { number = 0; cursor = c }
+Holds (Fresh s cells c) = (freshCall s cells (sweepOrder (grown s cells)) (7 ∷ []) ≡ record { number = 0; ticket = counting c 0 }) × (freshCounter s cells (sweepOrder (grown s cells)) (7 ∷ []) ≡ 0 ∷ [])
 Holds (Read t cells r after) = (readAnswer (length cells) t ≡ r) × (cellsAfter t cells ≡ after)
-Holds (Paged s cells ts) = Turns s cells (freshCall s cells (sweepOrder (grown s cells)) .cursor) ts
+Holds (Paged s cells ts) = Turns s cells (freshCall s cells (sweepOrder (grown s cells)) (7 ∷ []) .ticket) (freshCounter s cells (sweepOrder (grown s cells)) (7 ∷ [])) ts
+Holds (Judged s cells t counter cause) = pageCause s cells (sweepOrder (grown s cells)) t counter ≡ cause
 Holds (Rounded area printed) = squareMetres (hundredths area) ≡ printed
 Holds (Reported t printed) = reportOf t ≡ printed
 
@@ -98,7 +109,7 @@ shape = margined 0 0 0
 abbrev pub row : ℕ → List ℕ → ℕ → Told
 row layer places area = record { layer = layer; places = places; area = area }
 
-abbrev pub turn : ℕ → List ℕ → Stop → (rows probes area : ℕ) → List ℕ → Cursor → Turn
+abbrev pub turn : ℕ → List ℕ → Stop → (rows probes area : ℕ) → List ℕ → Ticket → Turn
 turn budget table stop rows probes area after due =
     record { budget = budget; table = table; stop = stop; rows = rows; probes = probes; area = area; after = after; due = due }
 
@@ -194,11 +205,11 @@ cases =
     -- "D: two rows, four trials."
     Listed d dCells (row 2 (0 ∷ 0 ∷ []) 250000 ∷ row 1 (1 ∷ 0 ∷ []) 0 ∷ []) 4
     -- "D, budget 2, ten cells: one row, Spent; again: one row, Ended."
-    ∷ Paged d dCells (turn 2 (ten 7 7) Spent 1 2 250000 (ten 0 0) (first 2 0 1) ∷ turn 2 (ten 7 7) Ended 1 2 0 (ten 1 0) endedCursor ∷ [])
+    ∷ Paged d dCells (turn 2 (ten 7 7) Spent 1 2 250000 (ten 0 0) (counting (first 2 0 1) 2) ∷ turn 2 (ten 7 7) Ended 1 2 0 (ten 1 0) (counting endedCursor 4) ∷ [])
     -- "D, a table of two cells, budget 9: two trials, Full; again: two trials, Ended."
-    ∷ Paged d dCells (turn 9 (two 7 7) Full 1 2 250000 (two 0 0) (first 2 0 1) ∷ turn 9 (two 7 7) Ended 1 2 0 (two 1 0) endedCursor ∷ [])
+    ∷ Paged d dCells (turn 9 (two 7 7) Full 1 2 250000 (two 0 0) (counting (first 2 0 1) 2) ∷ turn 9 (two 7 7) Ended 1 2 0 (two 1 0) (counting endedCursor 4) ∷ [])
     -- "D, budget 0 and no cells: Full."
-    ∷ Paged d dCells (turn 0 [] Full 0 0 0 [] (first 1 0 0) ∷ [])
+    ∷ Paged d dCells (turn 0 [] Full 0 0 0 [] (counting (first 1 0 0) 0) ∷ [])
     -- "One equal rectangle in each of two layers: one row, guard in layer 1, two trials."
     ∷ Listed (shape 2 1 1 0) twoAlike (row 1 (0 ∷ 0 ∷ []) 4 ∷ []) 2
     -- "Sizes 1 and 0: no trials, fresh ticket Ended."
@@ -266,6 +277,16 @@ cases =
     ∷ Listed (margined 0 10 0 2 1 1 0) (box 0 0 20 5 (box 10 0 12 5 [])) (row 1 (0 ∷ 0 ∷ []) 100 ∷ []) 2
     -- ours: several rows of one guard in three layers, in their order
     ∷ Listed (shape 3 2 1 2) three (row 2 (0 ∷ 0 ∷ 0 ∷ []) 50 ∷ row 2 (0 ∷ 0 ∷ 1 ∷ []) 30 ∷ row 2 (1 ∷ 0 ∷ 0 ∷ []) 45 ∷ row 2 (1 ∷ 0 ∷ 1 ∷ []) 27 ∷ []) 16
+    -- ours, of Q-5: the fresh ticket of D again, and an Ended, after more trials; a record of no cell and of two; a ticket that check 6 refuses first; 2^57 − 1
+    -- and 2^57
+    ∷ Judged d dCells (counting (first 1 0 0) 0) (0 ∷ []) 0
+    ∷ Judged d dCells (counting (first 1 0 0) 0) (2 ∷ []) 18
+    ∷ Judged d dCells (counting endedCursor 2) (4 ∷ []) 18
+    ∷ Judged d dCells (counting (first 1 0 0) 0) [] 18
+    ∷ Judged d dCells (counting (first 1 0 0) 0) (0 ∷ 0 ∷ []) 18
+    ∷ Judged d dCells (counting (first 3 0 0) 0) (2 ∷ []) 6
+    ∷ Judged d dCells (counting (first 2 0 1) 144115188075855871) (144115188075855871 ∷ []) 0
+    ∷ Judged d dCells (counting (first 2 0 1) 144115188075855872) (144115188075855872 ∷ []) 18
     ∷ []
 
 abbrev pub GroundHolds : Type 0

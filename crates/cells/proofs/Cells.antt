@@ -2,7 +2,7 @@
 use mathlib.Core.Path.{_≡_, refl, sym, ap, _∙_}
 use mathlib.Core.List.{List, [], _∷_}
 use mathlib.Core.Bool.{Bool, true, false, cond}
-use Prim.Native.Nat.{ℕ, zero, suc, _≤_, _<_}
+use Prim.Native.Nat.{ℕ, zero, suc, _/_, _%_, _≤_, _<_}
 use lib.Dec.{eqb}
 use lib.ListN.{getD}
 use lib.Ieee.{Float, binary64, ofBits}
@@ -17,13 +17,14 @@ use Rattle.survey.specs.declared.Strip.the-variants.{Between}
 use Rattle.paging.specs.declared.Run.{Run}
 use Rattle.paging.specs.declared.Run.the-variants.{Refused, Done}
 use Rattle.paging.specs.declared.Cursor.{Cursor}
+use Rattle.paging.specs.declared.Ticket.{Ticket}
 use Rattle.paging.specs.declared.Page.{Page}
 use Rattle.paging.specs.Calls.{stopNumber, runValues}
-use Rattle.cells.specs.Cells.{cursorCells, noCursor, cursorIn, cursorAfter, runCells, stripIn}
+use Rattle.cells.specs.Cells.{ticketCells, noCursor, cursorIn, ticketAfter, runCells, stripIn}
 
--- a cursor's cells as they are made
-pub made : (c : Cursor) → boolByte (c .ended) ∷ c .layer ∷ c .place ∷ c .filled ∷ getD (c .chosen) 0 0 ∷ getD (c .chosen) 1 0 ∷ getD (c .chosen) 2 0 ∷ getD (c .chosen) 3 0 ∷ getD (c .chosen) 4 0 ∷ c .next ∷ [] ≡ cursorCells c
-made c = rw (as-number (c .ended)) refl
+-- a ticket's cells as they are made
+pub made : (t : Ticket) → let c = t .cursor in boolByte (c .ended) ∷ c .layer ∷ c .place ∷ c .filled ∷ getD (c .chosen) 0 0 ∷ getD (c .chosen) 1 0 ∷ getD (c .chosen) 2 0 ∷ getD (c .chosen) 3 0 ∷ getD (c .chosen) 4 0 ∷ c .next ∷ t .count % 4294967296 ∷ t .count / 4294967296 ∷ [] ≡ ticketCells t
+made t = rw (as-number (t .cursor .ended)) refl
 
 -- the cursor in cells whose first is 0 or 1
 abbrev pub plainCursor : List ℕ → Cursor
@@ -42,13 +43,13 @@ choice : {A : Type 0} (n : ℕ) (a b : A) → (n ≡ 0 → ⊥) → b ≡ onCaus
 choice zero a b some = absurd (some refl)
 choice (suc n) a b some = refl
 
--- a refusal keeps the cursor's cells
-pub after-refused : (given : List ℕ) (p : Page) (n : ℕ) → n ≡ stopNumber (p .stop) → (n ≡ 0 → ⊥) → given ≡ cursorAfter given p
-after-refused given p n told some = choice (stopNumber (p .stop)) (cursorCells (p .cursor)) given (λ none. some (told ∙ none))
+-- a refusal keeps the ticket's cells
+pub after-refused : (given : List ℕ) (p : Page) (n : ℕ) → n ≡ stopNumber (p .stop) → (n ≡ 0 → ⊥) → given ≡ ticketAfter given p
+after-refused given p n told some = choice (stopNumber (p .stop)) (ticketCells (p .ticket)) given (λ none. some (told ∙ none))
 
--- an accepted page leaves the cursor due next
-pub after-due : (given : List ℕ) (p : Page) (n : ℕ) → n ≡ stopNumber (p .stop) → n ≡ 0 → cursorCells (p .cursor) ≡ cursorAfter given p
-after-due given p n told none = sym (ap (λ m. onCause m (cursorCells (p .cursor)) (λ i. given)) (sym told ∙ none))
+-- an accepted page leaves the ticket for what is due next
+pub after-due : (given : List ℕ) (p : Page) (n : ℕ) → n ≡ stopNumber (p .stop) → n ≡ 0 → ticketCells (p .ticket) ≡ ticketAfter given p
+after-due given p n told none = sym (ap (λ m. onCause m (ticketCells (p .ticket)) (λ i. given)) (sym told ∙ none))
 
 -- ---- whole runs
 -- a refusal has cells of 0

@@ -1,10 +1,10 @@
--- Cursors go into cells and back, so lists of exported calls are lists of calls; cells that are no cursor are refused.
+-- Tickets go into cells and back, so lists of exported calls are lists of calls; cells that are no cursor are refused.
 use mathlib.Core.Path.{_≡_, refl, sym, ap, _∙_, subst}
-use mathlib.Core.List.{List, [], _∷_, map}
+use mathlib.Core.List.{List, [], _∷_, map, Memᴰ·map}
 use mathlib.Core.Option.{none}
 use mathlib.Core.Bool.{Bool, true, false}
 use mathlib.Core.Logic.{_↔_}
-use Prim.Native.Nat.{ℕ, zero, suc, _-_, _<_}
+use Prim.Native.Nat.{ℕ, zero, suc, _+_, _-_, _*_, _/_, _%_, _<_}
 use native.Mathlib.Omega.{arith}
 use lib.IntN.{ℤ}
 use lib.ListN.{length, take, getD}
@@ -13,26 +13,26 @@ use Rattle.lists.proofs.Padding.{padded-long}
 use Rattle.geometry.specs.declared.Rect.{Rect}
 use Rattle.plan.specs.declared.Shape.{Shape}
 use Rattle.plan.specs.Causes.{onCause}
-use Rattle.plan.specs.Plan.{sizesOf, Typed, grown}
-use Rattle.sweep.specs.Sweep.{sweepOrder, orderCause}
+use Rattle.plan.specs.Plan.{sizesOf, Typed}
+use Rattle.sweep.specs.Sweep.{orderCause}
 use Rattle.search.specs.declared.Stop.{Stop}
 use Rattle.search.specs.declared.Stop.the-variants.{Ended, Full, Spent, Refused}
 use Rattle.search.specs.Traversal.{Probe}
 use Rattle.paging.specs.declared.Cursor.{Cursor}
 use Rattle.paging.specs.declared.Fresh.{Fresh}
 use Rattle.paging.specs.declared.Page.{Page}
+use Rattle.paging.specs.declared.Ticket.{Ticket}
 use Rattle.paging.specs.Cursors.{dueCursor, endedCursor, sameCursor, findIn, resume}
-use Rattle.paging.specs.Calls.{freshCall, stopNumber, refusedPage, pageCause, pageCall}
+use Rattle.paging.specs.Calls.{freshCause, freshCall, freshCounter, stopNumber, refusedPage, cursorCause, pageCause, pageCall}
 use Rattle.paging.specs.Overlays.{overlay}
 use Rattle.paging.specs.Pages.{paged, pageOf}
-use Rattle.paging.specs.Theorems.{Call, served, Chain, PagingHolds}
-use Rattle.paging.specs.Theorems as Paging
+use Rattle.paging.specs.Theorems.{Call, served, Course, begun, advanced, OneRun, run-end, run-refused, run-accepted, PagingHolds, TicketsHold}
 use Rattle.paging.proofs.Causes.{stop-none}
 use Rattle.paging.proofs.Theorems.{demand3}
 use Rattle.survey.specs.Theorems.{SoundStops}
 use Rattle.survey.proofs.Theorems.{surveys}
-use Rattle.cells.specs.Cells.{cursorCells, noCursor, cursorIn, stopCode, cursorAfter, stripIn}
-use Rattle.cells.specs.Theorems.{CellChain, end, refused, accepted, CursorsInCells, ShapesInCells, StripsInCells}
+use Rattle.cells.specs.Cells.{cursorCells, ticketCells, noCursor, cursorIn, ticketIn, stopCode, ticketAfter, stripIn}
+use Rattle.cells.specs.Theorems.{CellRun, end, refused, accepted, TicketsInCells, ShapesInCells, StripsInCells}
 use Rattle.cells.proofs.Cells.{in-none}
 
 -- five cells, read one by one
@@ -53,28 +53,41 @@ back-at false layer place filled chosen next h = ap (λ (l : List ℕ). record {
 back : (c : Cursor) → length (c .chosen) ≡ 5 → cursorIn (cursorCells c) ≡ c
 back c h = back-at (c .ended) (c .layer) (c .place) (c .filled) (c .chosen) (c .next) h
 
+-- so a ticket is
+ticket-back : (t : Ticket) → length (t .cursor .chosen) ≡ 5 → ticketIn (ticketCells t) ≡ t
+ticket-back t h =
+    let c = back (t .cursor) h in
+    let n : t .count % 4294967296 + t .count / 4294967296 * 4294967296 ≡ t .count = omega arith in
+    λ i. record { cursor = c i; count = n i }
+
 -- the cursor of what is due has five chosen places
 due-five : (ns : List ℕ) (w : List (Probe Rect)) → length (dueCursor ns w .chosen) ≡ 5
 due-five ns [] = refl
 due-five ns (t ∷ w) = padded-long 5 (take (length (t .path) - 1) (t .path))
 
-first : (s : Shape) (cells : List ℤ) (order : List ℕ) → cursorIn (cursorCells (freshCall s cells order .cursor)) ≡ freshCall s cells order .cursor
+first : (s : Shape) (cells : List ℤ) (order counter : List ℕ) → ticketIn (ticketCells (freshCall s cells order counter .ticket)) ≡ freshCall s cells order counter .ticket
 unfolding freshCall
-first s cells order = go (orderCause s cells order)
+first s cells order counter = go (freshCause s cells order counter)
   where
-    go : (n : ℕ) → let f = onCause {A = Fresh} n (record { number = 0; cursor = dueCursor (sizesOf s) (overlay s cells .walk) }) (λ m. record { number = m; cursor = endedCursor }) in cursorIn (cursorCells (f .cursor)) ≡ f .cursor
-    go zero = back (dueCursor (sizesOf s) (overlay s cells .walk)) (due-five (sizesOf s) (overlay s cells .walk))
+    go : (n : ℕ) → let f = onCause {A = Fresh} n (record { number = 0; ticket = record { cursor = dueCursor (sizesOf s) (overlay s cells .walk); count = 0 } }) (λ m. record { number = m; ticket = record { cursor = endedCursor; count = 0 } }) in ticketIn (ticketCells (f .ticket)) ≡ f .ticket
+    go zero = ticket-back _ (due-five (sizesOf s) (overlay s cells .walk))
     go (suc n) = refl
 
-chosen-next : (given : List ℕ) (n : ℕ) (p : Page) → stopNumber (p .stop) ≡ 0 → cursorIn (cursorCells (p .cursor)) ≡ p .cursor → let q = onCause n p (refusedPage (cursorIn given)) in cursorIn (cursorAfter given q) ≡ q .cursor
-chosen-next given zero p e b = ap (λ (m : ℕ). cursorIn (onCause m (cursorCells (p .cursor)) (λ i. given))) e ∙ b
+chosen-next : (given : List ℕ) (n : ℕ) (p : Page) → stopNumber (p .stop) ≡ 0 → ticketIn (ticketCells (p .ticket)) ≡ p .ticket → let q = onCause n p (refusedPage (ticketIn given)) in ticketIn (ticketAfter given q) ≡ q .ticket
+chosen-next given zero p e b = ap (λ (m : ℕ). ticketIn (onCause m (ticketCells (p .ticket)) (λ i. given))) e ∙ b
 chosen-next given (suc n) p e b = refl
 
-next : (s : Shape) (cells : List ℤ) (order given : List ℕ) (budget : ℕ) (table : List ℕ) → let p = pageCall s cells order (cursorIn given) budget table in cursorIn (cursorAfter given p) ≡ p .cursor
+next-in : (s : Shape) (cells : List ℤ) (order given counter : List ℕ) (budget : ℕ) (table : List ℕ) → let p = pageCall s cells order (ticketIn given) counter budget table in ticketIn (ticketAfter given p) ≡ p .ticket
 unfolding pageCall
-next s cells order given budget table =
-    let p = paged (overlay s cells) (cursorIn given) budget table in
-    chosen-next given (pageCause s cells order (cursorIn given)) (pageOf (overlay s cells) p) (stop-none (overlay s cells) (cursorIn given) budget table) (back (dueCursor (sizesOf s) (p .rest)) (due-five (sizesOf s) (p .rest)))
+next-in s cells order given counter budget table =
+    let o = overlay s cells in
+    let p = paged o (cursorIn given) budget table in
+    chosen-next given (pageCause s cells order (ticketIn given) counter) (pageOf o (ticketIn given .count) p) (stop-none o (cursorIn given) budget table) (ticket-back _ (due-five (sizesOf s) (p .rest)))
+
+next : (x : Call) (given : List ℕ) → x .ticket ≡ ticketIn given → ticketIn (ticketAfter given (served x .answer)) ≡ served x .answer .ticket
+next x given k =
+    subst (λ (t : Ticket). let p = pageCall (x .shape) (x .cells) (x .order) t (x .counter) (x .budget) (x .table) in ticketIn (ticketAfter given p) ≡ p .ticket) (sym k)
+    (next-in (x .shape) (x .cells) (x .order) given (x .counter) (x .budget) (x .table))
 
 -- no probe has the cursor that stands for none
 not-found : (ns : List ℕ) (w : List (Probe Rect)) → findIn ns noCursor w ≡ none
@@ -86,25 +99,23 @@ no-resume : (s : Shape) (cells : List ℤ) → resume (overlay s cells) noCursor
 unfolding resume sameCursor
 no-resume s cells = not-found (sizesOf s) (overlay s cells .walk)
 
-none-refused : (s : Shape) (cells : List ℤ) (order given : List ℕ) → 1 < getD given 0 0 → orderCause s cells order ≡ 0 → pageCause s cells order (cursorIn given) ≡ 6
-unfolding pageCause
-none-refused s cells order given high sound = rw (← in-none given high) (rw sound (rw (no-resume s cells) refl))
+none-refused : (s : Shape) (cells : List ℤ) (order given counter : List ℕ) → 1 < getD given 0 0 → orderCause s cells order ≡ 0 → pageCause s cells order (ticketIn given) counter ≡ 6
+unfolding cursorCause pageCause
+none-refused s cells order given counter high sound = rw (← in-none given high) (rw sound (rw (no-resume s cells) refl))
 
 -- ---- lists of exported calls
 module _ (s : Shape) (cells : List ℤ) where
   -- they are lists of calls
-  chain : {due : List ℕ} {xs : List Call} → CellChain s cells due xs → Chain s cells (cursorIn due) xs
-  chain end = Paging.end
-  chain (refused n h) = Paging.refused n (chain h)
-  chain (accepted {due = due} {x = x} {xs = xs} e p q k h) = Paging.accepted e p q k (subst (λ (c : Cursor). Chain s cells c xs) left (chain h))
-    where
-      left : cursorIn (cursorAfter due (served x .answer)) ≡ served x .answer .cursor
-      left =
-          subst (λ (c : Cursor). let p = pageCall (x .shape) (x .cells) (x .order) c (x .budget) (x .table) in cursorIn (cursorAfter due p) ≡ p .cursor) (sym k)
-          (next (x .shape) (x .cells) (x .order) due (x .budget) (x .table))
+  run : {tickets : List (List ℕ)} {counter : List ℕ} {xs : List Call} (r : Course) → map ticketIn tickets ≡ r .newest ∷ r .earlier → counter ≡ r .counter → CellRun s cells tickets counter xs → OneRun s cells r xs
+  run r p q end = run-end
+  run r p q (refused n h) = run-refused n (run r p q h)
+  run r p q (accepted {x = x} given e j c m k u h) =
+      run-accepted {r = r} e j c (rw (k, ← p) (Memᴰ·map ticketIn m)) (u ∙ q) (run (advanced r (served x)) (rw (next x given k, p)) refl h)
 
-  cell-paging : (xs : List Call) → Typed s → CellChain s cells (cursorCells (freshCall s cells (sweepOrder (grown s cells)) .cursor)) xs → PagingHolds (overlay s cells) (map served xs)
-  cell-paging xs typed h = demand3 .paging s cells xs typed (subst (λ (c : Cursor). Chain s cells c xs) (first s cells (sweepOrder (grown s cells))) (chain h))
+  cell-paging : (order counter : List ℕ) (xs : List Call) → Typed s → freshCause s cells order counter ≡ 0
+      → CellRun s cells (ticketCells (freshCall s cells order counter .ticket) ∷ []) (freshCounter s cells order counter) xs
+      → PagingHolds (overlay s cells) (map served xs) × TicketsHold (begun s cells order counter) (map served xs)
+  cell-paging order counter xs typed f h = demand3 .paging s cells order counter xs typed f (run (begun s cells order counter) (rw (first s cells order counter)) refl h)
 
 -- ---- codes
 stops : (stop : Stop) → ((stopCode stop ≡ 1) ↔ (stop ≡ Ended)) × ((stopCode stop ≡ 2) ↔ (stop ≡ Full)) × ((stopCode stop ≡ 3) ↔ (stop ≡ Spent))
@@ -113,8 +124,8 @@ stops Full = ((λ e. absurd (omega arith), λ e. cc), (λ e. refl, λ e. refl), 
 stops Spent = ((λ e. absurd (omega arith), λ e. cc), (λ e. absurd (omega arith), λ e. cc), (λ e. refl, λ e. refl))
 stops (Refused cause) = ((λ e. absurd (omega arith), λ e. cc), (λ e. absurd (omega arith), λ e. cc), (λ e. absurd (omega arith), λ e. cc))
 
-pub cursors-in-cells : CursorsInCells
-cursors-in-cells = record { paging = cell-paging; stops = stops; refused = none-refused }
+pub tickets-in-cells : TicketsInCells
+tickets-in-cells = record { paging = cell-paging; fresh = first; page = next; stops = stops; refused = none-refused }
 
 -- ---- strips
 -- a kind above 3 has no good stops

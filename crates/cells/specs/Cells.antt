@@ -1,7 +1,7 @@
--- Cursors, answers and strips as cells: how the C interface lays them out. The number of a cause is returned; the cells of a refused answer are 0, a refused fresh cursor says Ended, and a refused page leaves the cursor.
-use mathlib.Core.List.{List, [], _∷_}
+-- Tickets, answers and strips as cells: how the C interface lays them out. The number of a cause is returned; the cells of a refused answer are 0, a refused fresh ticket says Ended, and a refused page leaves the ticket.
+use mathlib.Core.List.{List, [], _∷_, _++_}
 use mathlib.Core.Bool.{true, cond}
-use Prim.Native.Nat.{ℕ, zero, suc}
+use Prim.Native.Nat.{ℕ, zero, suc, _+_, _*_, _/_, _%_}
 use lib.Dec.{eqb, leb}
 use lib.ListN.{getD}
 use lib.IntN.{pos}
@@ -16,6 +16,7 @@ use Rattle.survey.specs.declared.Strip.the-variants.{Free, From, To, Between}
 use Rattle.pairs.specs.PairCall.{PairValues}
 use Rattle.paging.specs.declared.Cursor.{Cursor}
 use Rattle.paging.specs.declared.Page.{Page}
+use Rattle.paging.specs.declared.Ticket.{Ticket}
 use Rattle.search.specs.declared.Stop.{Stop}
 use Rattle.search.specs.declared.Stop.the-variants.{Ended, Full, Spent, Refused}
 use Rattle.paging.specs.Calls.{stopNumber, RunValues}
@@ -24,10 +25,14 @@ use Rattle.paging.specs.Calls.{stopNumber, RunValues}
 abbrev pub shapeOf : ℕ → List ℕ → List ℕ → Shape
 shapeOf k sizes margins = record { k = k; sizes = sizes; margins = margins }
 
--- ---- cursors: whether the walk has ended (0 or 1), the guard's layer and place, how many slots are filled, the five chosen places, the place to try
+-- ---- tickets: whether the walk has ended (0 or 1), the guard's layer and place, how many slots are filled, the five chosen places, the place to try
 abbrev pub cursorCells : Cursor → List ℕ
 cursorCells c =
     cond (c .ended) 1 0 ∷ c .layer ∷ c .place ∷ c .filled ∷ getD (c .chosen) 0 0 ∷ getD (c .chosen) 1 0 ∷ getD (c .chosen) 2 0 ∷ getD (c .chosen) 3 0 ∷ getD (c .chosen) 4 0 ∷ c .next ∷ []
+
+-- ... and then the count, low and high
+abbrev pub ticketCells : Ticket → List ℕ
+ticketCells t = cursorCells (t .cursor) ++ t .count % 4294967296 ∷ t .count / 4294967296 ∷ []
 
 -- stands for cells that are no cursor: it says Ended and has a layer, so the page call refuses it by 6
 abbrev pub noCursor : Cursor
@@ -37,6 +42,10 @@ noCursor = record { ended = true; layer = 1; place = 0; filled = 0; chosen = 0 �
 abbrev pub cursorIn : List ℕ → Cursor
 cursorIn l =
     cond (leb (getD l 0 0) 1) (record { ended = eqb (getD l 0 0) 1; layer = getD l 1 0; place = getD l 2 0; filled = getD l 3 0; chosen = getD l 4 0 ∷ getD l 5 0 ∷ getD l 6 0 ∷ getD l 7 0 ∷ getD l 8 0 ∷ []; next = getD l 9 0 }) noCursor
+
+-- the ticket in cells
+abbrev pub ticketIn : List ℕ → Ticket
+ticketIn l = record { cursor = cursorIn l; count = getD l 10 0 + getD l 11 0 * 4294967296 }
 
 -- ---- pages: why it stopped (1 Ended, 2 Full, 3 Spent), rows, probes, area
 abbrev pub stopCode : Stop → ℕ
@@ -48,9 +57,9 @@ stopCode (Refused cause) = 0
 abbrev pub pageCells : Page → List ℕ
 pageCells p = stopCode (p .stop) ∷ p .rows ∷ p .probes ∷ valueOf (p .area) ∷ []
 
--- the cursor's cells afterwards: the cursor due next, or after a refusal what they were
-abbrev pub cursorAfter : List ℕ → Page → List ℕ
-cursorAfter given p = onCause (stopNumber (p .stop)) (cursorCells (p .cursor)) (λ n. given)
+-- the ticket's cells afterwards: the ticket for what is due next, or after a refusal what they were
+abbrev pub ticketAfter : List ℕ → Page → List ℕ
+ticketAfter given p = onCause (stopNumber (p .stop)) (ticketCells (p .ticket)) (λ n. given)
 
 -- ---- whole runs: rows, probes, area
 abbrev pub runCells : RunValues → List ℕ

@@ -1,7 +1,8 @@
-// Cursors, strips and the answers of calls as numbers and cells of fixed length, for languages without enums. The layout is in specs/Cells.antt.
+// Tickets, strips and the answers of calls as numbers and cells of fixed length, for languages without enums. The layout is in specs/Cells.antt.
 use paging::Cursor;
 use paging::Page;
 use paging::Run;
+use paging::Ticket;
 use pairs::PairAnswer;
 use rows::RowAnswer;
 use search::Stop;
@@ -11,13 +12,14 @@ use sweep::OrderAnswer;
 use text::Writing;
 use totals::value;
 ghost use mathlib.Core.Path.{_≡_};
+ghost use Prim.Native.Nat.{_+_, _*_};
 ghost use Rattle.sweep.specs.Sweep.{orderNumber};
 ghost use Rattle.rows.specs.RowCall.{rowValues};
 ghost use Rattle.pairs.specs.PairCall.{pairValues};
 ghost use Rattle.paging.specs.Calls.{stopNumber, runValues};
 ghost use Rattle.text.specs.Writer.{numberOf, lengthOf};
 ghost use Rattle.survey.specs.CoverCall.{coverValues};
-ghost use Rattle.cells.specs.Cells.{cursorCells, cursorIn, stopCode, pageCells, cursorAfter, runCells, rowCells, stripIn, pairCells};
+ghost use Rattle.cells.specs.Cells.{ticketCells, cursorIn, ticketIn, stopCode, pageCells, ticketAfter, runCells, rowCells, stripIn, pairCells};
 
 // The number of a writer's answer.
 pub fn written_number(writing: Writing) -> u32
@@ -93,11 +95,16 @@ pub fn pair_cells(answer: PairAnswer) -> [u64; 2]
     }
 }
 
-// The cells of a cursor.
-pub fn cursor_cells(cursor: Cursor) -> [u32; 10]
-    ensures { λ r. ⌜ r ≡ cursorCells cursor ⌝ }
+// One more than the largest cell of a ticket.
+const CELL: u64 = 4294967296;
+
+// The cells of a ticket.
+pub fn ticket_cells(ticket: Ticket) -> [u32; 12]
+    ensures { λ r. ⌜ r ≡ ticketCells ticket ⌝ }
 {
+    let cursor = ticket.cursor;
     let chosen = cursor.chosen;
+    let count = ticket.count;
     [
         cursor.ended as u32,
         cursor.layer,
@@ -109,11 +116,30 @@ pub fn cursor_cells(cursor: Cursor) -> [u32; 10]
         chosen[3],
         chosen[4],
         cursor.next,
+        (count % CELL) as u32,
+        (count / CELL) as u32,
     ]
 }
 
-// The cursor in cells; where the first is above 1, one that no walk has.
-pub fn cursor_in(cells: &[u32; 10]) -> Cursor
+// The ticket in cells.
+pub fn ticket_in(cells: &[u32; 12]) -> Ticket
+    ensures { λ r. ⌜ r ≡ ticketIn (now (cells .entry)) ⌝ }
+{
+    let cursor = cursor_in(cells);
+    let twelve = *cells;
+    let count = count_of(twelve[10], twelve[11]);
+    Ticket { cursor, count }
+}
+
+// A count of its low and its high cell.
+fn count_of(low: u32, high: u32) -> u64
+    ensures { λ r. ⌜ r ≡ low + high * 4294967296 ⌝ }
+{
+    low as u64 + high as u64 * CELL
+}
+
+// The cursor in the cells of a ticket; where the first is above 1, one that no walk has.
+fn cursor_in(cells: &[u32; 12]) -> Cursor
     ensures { λ r. ⌜ r ≡ cursorIn (now (cells .entry)) ⌝ }
 {
     let ten = *cells;
@@ -175,16 +201,16 @@ pub fn page_cells(page: Page) -> [u64; 4]
     ]
 }
 
-// The cursor's cells after a page: what is due next, or as given after a refusal.
-pub fn cursor_after(given: &[u32; 10], page: Page) -> [u32; 10]
-    ensures { λ r. ⌜ r ≡ cursorAfter (now (given .entry)) page ⌝ }
+// The ticket's cells after a page: what is due next, or as given after a refusal.
+pub fn ticket_after(given: &[u32; 12], page: Page) -> [u32; 12]
+    ensures { λ r. ⌜ r ≡ ticketAfter (now (given .entry)) page ⌝ }
 {
     let stop = page.stop;
     if stop_number(stop) != 0 {
         return *given;
     }
-    let due = page.cursor;
-    cursor_cells(due)
+    let due = page.ticket;
+    ticket_cells(due)
 }
 
 // The number of a whole run's answer.

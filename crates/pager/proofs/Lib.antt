@@ -1,4 +1,5 @@
 -- Laws of the calls.
+pub mod Counting
 pub mod Answering
 pub mod Running
 pub mod Calls

@@ -1,9 +1,9 @@
 -- One page call on an overlay: what it answers and leaves in its table, as the search's page.
 use mathlib.Core.Path.{_≡_, refl}
-use mathlib.Core.List.{List, map}
+use mathlib.Core.List.{List, [], _∷_, map}
 use mathlib.Core.Option.{Option, none, some}
 use mathlib.Core.Bool.{Bool, _&&_}
-use Prim.Native.Nat.{ℕ, zero, suc}
+use Prim.Native.Nat.{ℕ, zero, suc, _+_}
 use native.Mathlib.Omega.{arith}
 use lib.Dec.{eqb, ltb}
 use lib.ListN.{length}
@@ -33,7 +33,7 @@ pageIf (suc cause) p = none
 module _ {S : Type 0} (o : Overlay S) where
   -- the page that a call is due
   abbrev pub pageOn : Served → Paged (Probe S) (Row S)
-  pageOn x = paged o (x .cursor) (x .budget) (x .table)
+  pageOn x = paged o (x .ticket .cursor) (x .budget) (x .table)
 
   -- what the search's calls answer
   abbrev pub answered : Served → Option (Paged (Probe S) (Row S))
@@ -47,9 +47,11 @@ module _ {S : Type 0} (o : Overlay S) where
   abbrev pub allows : Served → Bool
   allows x = ltb 0 (x .budget) && ltb 0 (room o (x .table))
 
-  -- an accepted call answers its page and fills its table with it; a refused one reports nothing
+  -- an accepted call brings the counter of its ticket, answers its page, fills its table with it and counts it; a refused one reports nothing
   pub record Serves (x : Served) : Type 0 where
-    pub page : x .cause ≡ 0 → x .answer ≡ pageOf o (pageOn x)
+    pub counter : x .cause ≡ 0 → x .counter ≡ x .ticket .count ∷ []
+    pub counted : x .cause ≡ 0 → x .counted ≡ (x .ticket .count + pageOn x .done) ∷ []
+    pub page : x .cause ≡ 0 → x .answer ≡ pageOf o (x .ticket .count) (pageOn x)
     pub table : x .cause ≡ 0 → x .after ≡ fill (placed o (pageOn x .rows)) (x .table)
     pub none : (x .cause ≡ 0 → ⊥) → (x .answer .probes ≡ 0) × (x .answer .rows ≡ 0) × (x .answer .area ≡ totalOf 0)
 
@@ -60,7 +62,7 @@ module _ {S : Type 0} (o : Overlay S) where
     pub area : valueOf (x .answer .area) ≡ sum (map (o .area) (rowsFrom x))
     pub allowed : (eqb (x .cause) 0 && allows x) ≡ (accepts (answered x) && allows x)
     pub stop : x .cause ≡ 0 → x .answer .stop ≡ pageOn x .stop
-    pub cursor : x .cause ≡ 0 → x .answer .cursor ≡ dueCursor (o .sizes) (pageOn x .rest)
+    pub ticket : x .cause ≡ 0 → x .answer .ticket ≡ record { cursor = dueCursor (o .sizes) (pageOn x .rest); count = x .ticket .count + x .answer .probes }
 
   -- ---- refused
   -- a refused call answers no page
@@ -80,7 +82,7 @@ module _ {S : Type 0} (o : Overlay S) where
         area = rw (h .1, h .2) (value-total 0);
         allowed = rw (ne-eqb (x .cause) 0 n, answered-none x n);
         stop = λ z. absurd (n z);
-        cursor = λ z. absurd (n z);
+        ticket = λ z. absurd (n z);
       }
 
   -- ---- accepted
@@ -90,11 +92,11 @@ module _ {S : Type 0} (o : Overlay S) where
 
   -- each row of a call's page has k places
   pub page-long : Lawful o → (x : Served) → All (λ r. length (placesOf (o .sizes) r) ≡ length (o .sizes)) (pageOn x .rows)
-  page-long l x = go (resume o (x .cursor)) refl
+  page-long l x = go (resume o (x .ticket .cursor)) refl
     where
-      go : (w : Option (List (Probe S))) → resume o (x .cursor) ≡ w → All (λ r. length (placesOf (o .sizes) r) ≡ length (o .sizes)) (page rowOf (x .budget) (room o (x .table)) (listIn w) .rows)
+      go : (w : Option (List (Probe S))) → resume o (x .ticket .cursor) ≡ w → All (λ r. length (placesOf (o .sizes) r) ≡ length (o .sizes)) (page rowOf (x .budget) (room o (x .table)) (listIn w) .rows)
       go none e = none-left
-      go (some w) e = let k = resume-is o (x .cursor) w e in page-all rowOf (x .budget) (room o (x .table)) (k .before) w (rw (k .splits) (walk-long o l))
+      go (some w) e = let k = resume-is o (x .ticket .cursor) w e in page-all rowOf (x .budget) (room o (x .table)) (k .before) w (rw (k .splits) (walk-long o l))
 
   agrees-accepted : Lawful o → (x : Served) → Serves x → x .cause ≡ 0 → Agrees x
   agrees-accepted l x v e = record {
@@ -103,7 +105,7 @@ module _ {S : Type 0} (o : Overlay S) where
     area = rw (v .page e, v .table e, filled) (value-total _);
     allowed = rw (eq-eqb (x .cause) 0 e, e);
     stop = λ z. rw (v .page e);
-    cursor = λ z. rw (v .page e);
+    ticket = λ z. rw (v .page e);
   }
     where
       filled : rowsIn (length (o .sizes)) (length (pageOn x .rows)) (fill (placed o (pageOn x .rows)) (x .table)) ≡ placed o (pageOn x .rows)

@@ -1,14 +1,15 @@
 -- Each cause of the calls applies in exactly the stated case.
 use mathlib.Core.Path.{_≡_, refl}
-use mathlib.Core.Logic.{⊎-elim}
+use mathlib.Core.Logic.{_↔_, Iff·trans, ⊎-elim}
 use mathlib.Core.List.{List}
-use Prim.Native.Nat.{ℕ, zero, suc, _≤_}
+use Prim.Native.Nat.{ℕ, zero, suc, _<_}
 use native.Mathlib.Omega.{arith}
 use lib.IntN.{ℤ}
 use lib.Dec.{leb}
 use lib.ListN.{length}
+use borrow.Author.Tests.{eqb-true, eq-eqb}
 use Rattle.lists.specs.Lists.{Tells, isSome, listIn}
-use Rattle.lists.proofs.Tests.{le-tells}
+use Rattle.lists.proofs.Tests.{le-tells, tells}
 use Rattle.totals.specs.declared.Total.{Total}
 use Rattle.plan.specs.declared.Shape.{Shape}
 use Rattle.plan.specs.Causes.{onCause}
@@ -22,6 +23,7 @@ use Rattle.search.specs.Traversal.{Probe, Row, rowOf}
 use Rattle.search.specs.Paging.{Paged}
 use Rattle.search.proofs.Paging.{page-stops}
 use Rattle.paging.specs.declared.Cursor.{Cursor}
+use Rattle.paging.specs.declared.Ticket.{Ticket}
 use Rattle.paging.specs.declared.Fresh.{Fresh}
 use Rattle.paging.specs.declared.Page.{Page}
 use Rattle.paging.specs.declared.Run.{Run}
@@ -29,28 +31,60 @@ use Rattle.paging.specs.declared.Run.the-variants as Run
 use Rattle.paging.specs.Overlays.{Overlay, overlay}
 use Rattle.paging.specs.Cursors.{endedCursor, resume}
 use Rattle.paging.specs.Pages.{room, paged, pageOf}
-use Rattle.paging.specs.Calls.{freshCall, pageCause, stopNumber, refusedPage, pageCall, pageTable, runCause, runCall, runTable, runValues}
+use Rattle.paging.specs.Calls.{oneCell, current, freshCause, freshCall, freshCounter, cursorCause, pageCause, stopNumber, refusedPage, pageCall, pageTable, pageCounter, runCause, runCall, runTable, runValues}
 use Rattle.paging.specs.Theorems.{Good, CallCauses, Call, served, Refuses}
 use Rattle.paging.proofs.Named.{resumes}
+use Rattle.paging.proofs.Counters.{current-tells, stale-or-not}
 
 -- a plan and an order that are let through
 pub sound-of : (s : Shape) (cells : List ℤ) (order : List ℕ) → Typed s → orderCause s cells order ≡ 0 → Sound s cells
 sound-of s cells order t e = record { typed = t; passed = sweep-holding .order s cells order .none .0 e .0 }
 
+-- ---- the ticket's checks, 6 and then 18
+module _ (s : Shape) (cells : List ℤ) (order : List ℕ) (typed : Typed s) (c : Cursor) where
+  good : orderCause s cells order ≡ 0 → Tells (Good (sizesOf s) (grown s cells) c) (isSome (resume (overlay s cells) c))
+  good e = resumes (sizesOf s) (grown s cells) (framed s cells (sound-of s cells order typed e) .1) c
+
+  pub cursor-passed : (cursorCause s cells order c ≡ 0) ↔ ((orderCause s cells order ≡ 0) × Good (sizesOf s) (grown s cells) c)
+  unfolding cursorCause
+  cursor-passed = check-passed (orderCause s cells order) 5 good
+
+  cursor-failed : (cursorCause s cells order c ≡ 6) ↔ ((orderCause s cells order ≡ 0) × (Good (sizesOf s) (grown s cells) c → ⊥))
+  unfolding cursorCause
+  cursor-failed = check-failed (orderCause s cells order) 5 (order-not s cells order 6 (omega arith) (λ e. omega arith)) good
+
+  cursor-others : (n : ℕ) → 0 < n → (n ≡ 6 → ⊥) → (cursorCause s cells order c ≡ n) ↔ (orderCause s cells order ≡ n)
+  unfolding cursorCause
+  cursor-others n p x = check-others (orderCause s cells order) (isSome (resume (overlay s cells) c)) 6 n p x
+
+  -- none of them is 18
+  cursor-not : cursorCause s cells order c ≡ 18 → ⊥
+  cursor-not e = order-not s cells order 18 (omega arith) (λ z. omega arith) (cursor-others 18 (omega arith) (λ z. omega arith) .0 e)
+
 -- so each applies exactly where it should
-pub call-causes : (s : Shape) (cells : List ℤ) (order : List ℕ) (c : Cursor) (table : List ℕ) → Typed s → CallCauses s cells order c table
-unfolding pageCause runCause
-call-causes s cells order c table typed = record {
-  page = check-passed first 5 good;
-  page-others = λ k p x. check-others first (isSome (resume (overlay s cells) c)) 6 k p x;
-  six = check-failed first 5 (order-not s cells order 6 (omega arith) (λ e. omega arith)) good;
+pub call-causes : (s : Shape) (cells : List ℤ) (order : List ℕ) (t : Ticket) (counter table : List ℕ) → Typed s → CallCauses s cells order t counter table
+unfolding freshCause pageCause runCause
+call-causes s cells order t counter table typed = record {
+  fresh = check-passed first 17 (λ z. one);
+  fresh-eighteen = check-failed first 17 (order-not s cells order 18 (omega arith) (λ e. omega arith)) (λ z. one);
+  fresh-others = λ k p x. check-others first (oneCell counter) 18 k p x;
+  page = Iff·trans (check-passed named 17 (λ z. current-tells (t .count) counter)) (λ h. (passed .0 (h .0) .0, passed .0 (h .0) .1, h .1), λ h. (passed .1 (h .0, h .1), h .2));
+  six = Iff·trans (check-others named (current (t .count) counter) 18 6 (omega arith) (λ e. omega arith)) (cursor-failed s cells order typed c);
+  eighteen = Iff·trans (check-failed named 17 (cursor-not s cells order typed c) (λ z. current-tells (t .count) counter)) (λ h. (passed .0 (h .0) .0, passed .0 (h .0) .1, ⊎-elim (λ e. e) (λ n. absurd (h .1 n)) (stale-or-not (t .count) counter)), λ h. (passed .1 (h .0, h .1), λ n. n (h .2)));
+  page-others = λ k p x y. Iff·trans (check-others named (current (t .count) counter) 18 k p y) (cursor-others s cells order typed c k p x);
   run = check-passed first 6 (λ z. le-tells n m);
   run-others = λ k p x. check-others first (leb n m) 7 k p x;
   seven = let i = check-failed first 6 (order-not s cells order 7 (omega arith) (λ e. omega arith)) (λ z. le-tells n m) in (λ e. let h = i .0 e in (h .0, omega (arith, h .1)), λ h. i .1 (h .0, λ l. omega (arith, h .1)));
 }
   where
+    c : Cursor
+    c = t .cursor
+
     first : ℕ
     first = orderCause s cells order
+
+    named : ℕ
+    named = cursorCause s cells order c
 
     n : ℕ
     n = length (overlay s cells .table)
@@ -58,8 +92,11 @@ call-causes s cells order c table typed = record {
     m : ℕ
     m = room (overlay s cells) table
 
-    good : first ≡ 0 → Tells (Good (sizesOf s) (grown s cells) c) (isSome (resume (overlay s cells) c))
-    good e = resumes (sizesOf s) (grown s cells) (framed s cells (sound-of s cells order typed e) .1) c
+    one : Tells (length counter ≡ 1) (oneCell counter)
+    one = tells (oneCell counter) (eqb-true (length counter) 1) (eq-eqb (length counter) 1)
+
+    passed : (named ≡ 0) ↔ ((first ≡ 0) × Good (sizesOf s) (grown s cells) c)
+    passed = cursor-passed s cells order typed c
 
 -- ---- refusals
 -- a page that was made is accepted
@@ -70,22 +107,22 @@ done-no : {rows probes n : ℕ} {area : Total} → _≡_ {A = Run} (Run.Done row
 done-no q = let z : _≡_ {A = ℕ} 0 1 = cc in omega arith
 
 pub refuses : (x : Call) → Refuses x
-unfolding freshCall pageCall pageTable runCall runTable
+unfolding freshCall freshCounter pageCall pageTable pageCounter runCall runTable
 refuses x = record {
-  fresh-number = fresh-told (orderCause (x .shape) (x .cells) (x .order)) _;
-  page-number = page-told (served x .cause) (paged (overlay (x .shape) (x .cells)) (x .cursor) (x .budget) (x .table)) (stop-none (overlay (x .shape) (x .cells)) (x .cursor) (x .budget) (x .table));
+  fresh-number = fresh-told (freshCause (x .shape) (x .cells) (x .order) (x .counter)) _;
+  page-number = page-told (served x .cause) (paged (overlay (x .shape) (x .cells)) (x .ticket .cursor) (x .budget) (x .table)) (stop-none (overlay (x .shape) (x .cells)) (x .ticket .cursor) (x .budget) (x .table));
   run-number = run-told (runCause (x .shape) (x .cells) (x .order) (x .table)) _ _ _;
   run-done = λ e n q. done-no (rw e at q);
-  fresh = λ n e. rw e;
-  page = λ n e. (rw e, rw e);
+  fresh = λ n e. (rw e, rw e);
+  page = λ n e. (rw e, rw e, rw e);
   run = λ n e. (rw e, rw e);
 }
   where
-    fresh-told : (n : ℕ) (c : Cursor) → _≡_ {A = ℕ} ((onCause {A = Fresh} n (record { number = 0; cursor = c }) (λ m. record { number = m; cursor = endedCursor })) .number) n
-    fresh-told zero c = refl
-    fresh-told (suc n) c = refl
+    fresh-told : (n : ℕ) (t : Ticket) → _≡_ {A = ℕ} ((onCause {A = Fresh} n (record { number = 0; ticket = t }) (λ m. record { number = m; ticket = record { cursor = endedCursor; count = 0 } })) .number) n
+    fresh-told zero t = refl
+    fresh-told (suc n) t = refl
 
-    page-told : (n : ℕ) (p : Paged (Probe Rect) (Row Rect)) → stopNumber (p .stop) ≡ 0 → stopNumber (onCause {A = Page} n (pageOf (overlay (x .shape) (x .cells)) p) (refusedPage (x .cursor)) .stop) ≡ n
+    page-told : (n : ℕ) (p : Paged (Probe Rect) (Row Rect)) → stopNumber (p .stop) ≡ 0 → stopNumber (onCause {A = Page} n (pageOf (overlay (x .shape) (x .cells)) (x .ticket .count) p) (refusedPage (x .ticket)) .stop) ≡ n
     page-told zero p h = h
     page-told (suc n) p h = refl
 

@@ -15,6 +15,7 @@ use Rattle.search.proofs.Chains.{Delivered}
 use Rattle.search.proofs.Chains as Search
 use Rattle.search.proofs.Calls.{delivered}
 use Rattle.paging.specs.declared.Cursor.{Cursor}
+use Rattle.paging.specs.declared.Ticket.{Ticket}
 use Rattle.paging.specs.Overlays.{Overlay}
 use Rattle.paging.specs.Cursors.{dueCursor, resume}
 use Rattle.paging.specs.Pages.{room}
@@ -23,11 +24,11 @@ use Rattle.paging.proofs.Overlays.{placed, Lawful}
 use Rattle.paging.proofs.Resume.{resume-due}
 use Rattle.paging.proofs.Calls.{pageIf, pageOn, answered, Serves, Agrees, answered-none, answered-some, agrees}
 
--- calls on one overlay, each of them refused or with the cursor that is due; c is that of the first
-pub data Linked {S : Type 0} (o : Overlay S) : Cursor → List Served → Type 0 where
-  end : {c : Cursor} → Linked o c []
-  refused : {c : Cursor} {x : Served} {xs : List Served} → Serves o x → (x .cause ≡ 0 → ⊥) → Linked o c xs → Linked o c (x ∷ xs)
-  accepted : {c : Cursor} {x : Served} {xs : List Served} → Serves o x → x .cause ≡ 0 → x .cursor ≡ c → Linked o (x .answer .cursor) xs → Linked o c (x ∷ xs)
+-- calls on one overlay, each of them refused or with the ticket that is due; t is that of the first
+pub data Linked {S : Type 0} (o : Overlay S) : Ticket → List Served → Type 0 where
+  end : {t : Ticket} → Linked o t []
+  refused : {t : Ticket} {x : Served} {xs : List Served} → Serves o x → (x .cause ≡ 0 → ⊥) → Linked o t xs → Linked o t (x ∷ xs)
+  accepted : {t : Ticket} {x : Served} {xs : List Served} → Serves o x → x .cause ≡ 0 → x .ticket ≡ t → Linked o (x .answer .ticket) xs → Linked o t (x ∷ xs)
 
 module _ {S : Type 0} (o : Overlay S) where
   -- ---- lists of calls that agree with the search's
@@ -56,25 +57,25 @@ module _ {S : Type 0} (o : Overlay S) where
 
   module _ (l : Lawful o) where
     -- each call agrees with the search's
-    pub linked-agrees : {c : Cursor} {xs : List Served} → Linked o c xs → All (Agrees o) xs
+    pub linked-agrees : {t : Ticket} {xs : List Served} → Linked o t xs → All (Agrees o) xs
     linked-agrees end = none-left
     linked-agrees (refused {x = x} v r h) = _and_ (agrees o l x v) (linked-agrees h)
     linked-agrees (accepted {x = x} v e k h) = _and_ (agrees o l x v) (linked-agrees h)
 
     -- the search's chain
-    linked-search : {c : Cursor} {xs : List Served} (d : Cursor) → c ≡ d → Linked o c xs → Search.Chain (dueCursor (o .sizes)) (λ x. x .cursor) (answered o) d xs
+    linked-search : {t : Ticket} {xs : List Served} (d : Cursor) → t .cursor ≡ d → Linked o t xs → Search.Chain (dueCursor (o .sizes)) (λ x. x .ticket .cursor) (answered o) d xs
     linked-search d q end = Search.end
     linked-search d q (refused {x = x} v r h) = Search.refused (answered-none o x r) (linked-search d q h)
     linked-search d q (accepted {x = x} v e k h) =
-        Search.accepted (answered-some o x e) (k ∙ q) (linked-search (dueCursor (o .sizes) (pageOn o x .rest)) (agrees o l x v .cursor e) h)
+        Search.accepted (answered-some o x e) (ap (λ (u : Ticket). u .cursor) k ∙ q) (linked-search (dueCursor (o .sizes) (pageOn o x .rest)) (ap (λ (u : Ticket). u .cursor) (agrees o l x v .ticket e)) h)
 
     -- so what is proved of the search's calls holds of these
-    pub linked-delivered : {xs : List Served} → Linked o (dueCursor (o .sizes) (o .walk)) xs → Delivers xs
-    linked-delivered h =
+    pub linked-delivered : {t : Ticket} {xs : List Served} → t .cursor ≡ dueCursor (o .sizes) (o .walk) → Linked o t xs → Delivers xs
+    linked-delivered q h =
         delivered rowOf (o .walk) (dueCursor (o .sizes)) (resume o) (λ n b. resume-due o l n)
-        (λ x. x .cursor) (λ x. x .budget) (λ x. room o (x .table)) (answered o) one (linked-search (dueCursor (o .sizes) (o .walk)) refl h)
+        (λ x. x .ticket .cursor) (λ x. x .budget) (λ x. room o (x .table)) (answered o) one (linked-search (dueCursor (o .sizes) (o .walk)) q h)
       where
-        one : (x : Served) (p : Paged (Probe S) (Row S)) (w : List (Probe S)) → answered o x ≡ some p → resume o (x .cursor) ≡ some w → p ≡ page rowOf (x .budget) (room o (x .table)) w
+        one : (x : Served) (p : Paged (Probe S) (Row S)) (w : List (Probe S)) → answered o x ≡ some p → resume o (x .ticket .cursor) ≡ some w → p ≡ page rowOf (x .budget) (room o (x .table)) w
         one x p w e r = go (x .cause) (rw r at e)
           where
             go : (c : ℕ) → pageIf c (page rowOf (x .budget) (room o (x .table)) w) ≡ some p → p ≡ page rowOf (x .budget) (room o (x .table)) w

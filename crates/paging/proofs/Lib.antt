@@ -5,9 +5,11 @@ pub mod Tables
 pub mod Calls
 pub mod Lasts
 pub mod Chains
+pub mod Courses
 pub mod Lists
 pub mod Pages
 pub mod Named
+pub mod Counters
 pub mod Causes
 pub mod Runs
 pub mod Theorems

@@ -1,6 +1,6 @@
 -- What lists of page calls on an overlay did, by what the search's calls did: demand 3 of them.
 use mathlib.Core.Path.{_≡_, refl, sym, ap, _∙_}
-use mathlib.Core.List.{List, [], _∷_, _++_, map, append-assoc, List·Memᴰ·head, Memᴰ·append-right}
+use mathlib.Core.List.{List, [], _∷_, _++_, map, append-nil, append-assoc, List·Memᴰ·head, Memᴰ·append-right}
 use mathlib.Core.Option.{none, some, Option·map}
 use mathlib.Core.Logic.{_⊎_, inl, inr, _↔_}
 use Prim.Native.Nat.{ℕ, _≤_, _<_, zero-le}
@@ -21,10 +21,11 @@ use Rattle.walk.specs.Walk.{placesOf}
 use Rattle.search.specs.declared.Stop.the-variants.{Ended}
 use Rattle.paging.specs.Overlays.{Overlay}
 use Rattle.paging.specs.Cursors.{dueCursor}
-use Rattle.paging.specs.Theorems.{Served, handed, reported, allowing, Last, PagingHolds}
+use Rattle.paging.specs.Theorems.{Served, handed, reported, allowing, Last, Course, courseAfter, PagingHolds}
 use Rattle.paging.proofs.Overlays.{placed, Lawful}
 use Rattle.paging.proofs.Calls.{pageOn, answered, Serves, Agrees, answered-some}
 use Rattle.paging.proofs.Lasts.{Declined, last-or-none, last-none, last-is}
+use Rattle.paging.proofs.Courses.{newest-is, same-count, Steady, Going, newest-counts, going-linked, going-steady}
 use Rattle.paging.proofs.Chains.{Linked, Delivers, reported-same, allowing-same, handed-same, areas-same, linked-agrees, linked-delivered}
 
 module _ {S : Type 0} (o : Overlay S) where
@@ -66,14 +67,9 @@ module _ {S : Type 0} (o : Overlay S) where
             let z : some (pageOn o (y .0) .stop) ≡ some Ended = rw (last-is o xs (y .0) l) at e in
             (y .0, l, at (l .before) (y .0) (l .behind) (l .is) .stop (l .accepted) ∙ cc)
 
-    -- its cursor is the one that is due then
-    last-cursor : (x : Served) → Last xs x → x .answer .cursor ≡ dueCursor (o .sizes) (drop (reported xs) (o .walk))
-    last-cursor x l =
-        at (l .before) x (l .behind) (l .is) .cursor (l .accepted) ∙ rw (reported-same o all) (rw (last-is o xs x l) at (d .last))
-
-  -- demand 3 of one list that begins with the fresh cursor
-  pub linked-holds : Lawful o → (xs : List Served) → Linked o (dueCursor (o .sizes) (o .walk)) xs → PagingHolds o xs
-  linked-holds l xs c = record {
+  -- demand 3 of one list in a run that a fresh ticket begins
+  pub going-holds : Lawful o → (r : Course) (xs : List Served) → Steady o r → r .newest .count ≡ 0 → Going o r xs → PagingHolds o xs
+  going-holds l r xs h z g = record {
     first = rw rows (table-front l (reported xs));
     yielded = rows;
     within = rw (reported-same o all) (d .within);
@@ -81,17 +77,30 @@ module _ {S : Type 0} (o : Overlay S) where
     ended = call-ended xs all d;
     bound = last-ended xs all d;
     areas = areas-same o all;
-    last = last-cursor xs all d;
+    last = λ x k. sym (newest-is r xs x k) ∙ newest;
   }
     where
+      c : Linked o (r .newest) xs
+      c = going-linked o l h g
+
       all : All (Agrees o) xs
       all = linked-agrees o l c
 
+      -- the fresh ticket names the whole walk
+      whole : r .newest .cursor ≡ dueCursor (o .sizes) (o .walk)
+      whole = rw z at (newest-counts o r h)
+
       d : Delivers o xs
-      d = linked-delivered o l c
+      d = linked-delivered o l whole c
 
       rows : handed (length (o .sizes)) xs ≡ placed o (rowsOf rowOf (take (reported xs) (o .walk)))
       rows = yielded xs all d
+
+      -- the newest ticket counts the probes reported in all
+      newest : courseAfter r xs .newest ≡ record { cursor = dueCursor (o .sizes) (drop (reported xs) (o .walk)); count = reported xs }
+      newest =
+          let i = going-steady o l xs [] h (rw append-nil g) in
+          same-count o (courseAfter r xs .newest) _ (newest-counts o (courseAfter r xs) (i .0)) refl (omega (arith, i .1, z))
 
   -- ---- where each call is refused
   -- nothing is handed out, reported or allowed

@@ -2,7 +2,7 @@
 use mathlib.Core.Path.{_≡_, ap, _∙_}
 use mathlib.Core.List.{List}
 use mathlib.Core.Option.{some}
-use Prim.Native.Nat.{ℕ}
+use Prim.Native.Nat.{ℕ, _+_}
 use lib.ListN.{length, length-map}
 use Rattle.lists.specs.Lists.{All}
 use Rattle.lists.proofs.Lists.{all-of-map}
@@ -19,13 +19,13 @@ use Rattle.paging.proofs.Overlays.{placed, Lawful}
 use Rattle.paging.proofs.Tables.{places-filled, fill-long, fill-kept}
 use Rattle.paging.proofs.Calls.{Serves, page-long}
 
-module _ {S : Type 0} (o : Overlay S) (l : Lawful o) (x : Served) (v : Serves o x) (w : List (Probe S)) (e : x .cause ≡ 0) (r : resume o (x .cursor) ≡ some w) where
+module _ {S : Type 0} (o : Overlay S) (l : Lawful o) (x : Served) (v : Serves o x) (w : List (Probe S)) (e : x .cause ≡ 0) (r : resume o (x .ticket .cursor) ≡ some w) where
   -- the page over what is left
   abbrev its : Paged (Probe S) (Row S)
   its = page rowOf (x .budget) (room o (x .table)) w
 
   -- the call answers it
-  its-answer : x .answer ≡ pageOf o its
+  its-answer : x .answer ≡ pageOf o (x .ticket .count) its
   its-answer = v .page e ∙ rw r
 
   -- its rows fill the table
@@ -46,7 +46,8 @@ module _ {S : Type 0} (o : Overlay S) (l : Lawful o) (x : Served) (v : Serves o 
     stops = rw its-answer (page-stops rowOf b m w);
     going = rw its-answer (page-going rowOf b m w);
     area = rw (its-answer, its-table, filled) (value-total _);
-    cursor = rw its-answer (ap (dueCursor (o .sizes)) (page-rest rowOf b m w));
+    ticket = rw its-answer (ap (λ (v : List (Probe S)). record { cursor = dueCursor (o .sizes) v; count = x .ticket .count + its .done }) (page-rest rowOf b m w));
+    counted = v .counted e ∙ rw (its-answer, r);
     long = rw its-table (fill-long (length (o .sizes)) (x .table) long (rw length-map (page-room rowOf b m w)));
     kept = rw (its-answer, its-table) (rw length-map at (fill-kept (length (o .sizes)) (x .table) long));
   }

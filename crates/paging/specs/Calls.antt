@@ -1,9 +1,11 @@
--- What the fresh-cursor call, the page call and the whole run answer (01, "The walk" and "Causes and their numbers"), and the crossing report (02, Q-2).
-use mathlib.Core.List.{List, map}
-use Prim.Native.Nat.{ℕ}
+-- What the fresh-ticket call, the page call and the whole run answer (01, "The walk" and "Causes and their numbers"), and the crossing report (02, Q-2). A counter is 02's
+-- run record (Q-5), a lent list of cells.
+use mathlib.Core.List.{List, [], _∷_, map}
+use mathlib.Core.Bool.{Bool, _&&_}
+use Prim.Native.Nat.{ℕ, _+_}
 use lib.IntN.{ℤ}
-use lib.Dec.{leb}
-use lib.ListN.{length, replicate}
+use lib.Dec.{eqb, leb, ltb}
+use lib.ListN.{length, getD, replicate}
 use Rattle.totals.specs.declared.Total.{Total}
 use Rattle.totals.specs.Totals.{totalOf}
 use Rattle.plan.specs.declared.Shape.{Shape}
@@ -13,6 +15,7 @@ use Rattle.sweep.specs.Sweep.{orderCause}
 use Rattle.crossings.specs.ClassCall.{crossingCause, classCounts}
 use Rattle.walk.specs.Walk.{placesOf}
 use Rattle.paging.specs.declared.Cursor.{Cursor}
+use Rattle.paging.specs.declared.Ticket.{Ticket}
 use Rattle.paging.specs.declared.Fresh.{Fresh}
 use Rattle.paging.specs.declared.Page.{Page}
 use Rattle.search.specs.declared.Stop.{Stop}
@@ -25,16 +28,42 @@ use Rattle.paging.specs.Cursors.{endedCursor, dueCursor, resume}
 use Rattle.paging.specs.Pages.{fill, room, paged, areaSum, pageOf}
 use Rattle.lists.specs.Lists.{isSome}
 
--- ---- the fresh-cursor call; its checks are 1 2 17 3 4 5
--- 01: "takes plan and order and returns the fresh ticket: the first trial, or Ended where the walk is empty"; a refusal returns Ended
-unfoldable pub freshCall : Shape → List ℤ → List ℕ → Fresh
-freshCall s cells order =
-    let o = overlay s cells in
-    onCause (orderCause s cells order) (record { number = 0; cursor = dueCursor (o .sizes) (o .walk) }) (λ n. record { number = n; cursor = endedCursor })
+-- ---- counters
+-- 02: a run record "of one unsigned 64-bit cell"
+abbrev pub oneCell : List ℕ → Bool
+oneCell counter = eqb (length counter) 1
 
--- ---- the page call; its checks are 1 2 17 3 4 5 6
-unfoldable pub pageCause : Shape → List ℤ → List ℕ → Cursor → ℕ
-pageCause s cells order c = orderCause s cells order orElse unless (isSome (resume (overlay s cells) c)) 6
+-- 2^57: a counter that a page call takes is below it
+abbrev pub mostCount : ℕ
+mostCount = 144115188075855872
+
+-- the counter is that of a ticket with this count. Else 02: it "is not one cell, or for a page call holds 2^57 or more or differs from the ticket's count"
+unfoldable pub current : (count : ℕ) → List ℕ → Bool
+current count counter = oneCell counter && (ltb (getD counter 0 0) mostCount && eqb (getD counter 0 0) count)
+
+-- ---- the fresh-ticket call
+-- its checks: 1 2 17 3 4 5, and 18 where "the record is not one cell"
+unfoldable pub freshCause : Shape → List ℤ → List ℕ → List ℕ → ℕ
+freshCause s cells order counter = orderCause s cells order orElse unless (oneCell counter) 18
+
+-- 01: "takes plan and order and returns the fresh ticket: the first trial, or Ended where the walk is empty"; a refusal returns Ended. No probe is done
+unfoldable pub freshCall : Shape → List ℤ → List ℕ → List ℕ → Fresh
+freshCall s cells order counter =
+    let o = overlay s cells in
+    onCause (freshCause s cells order counter) (record { number = 0; ticket = record { cursor = dueCursor (o .sizes) (o .walk); count = 0 } }) (λ n. record { number = n; ticket = record { cursor = endedCursor; count = 0 } })
+
+-- the counter afterwards. 02: "A fresh start writes 0"; after a refusal "the record is left as it was"
+unfoldable pub freshCounter : Shape → List ℤ → List ℕ → List ℕ → List ℕ
+freshCounter s cells order counter = onCause (freshCause s cells order counter) (0 ∷ []) (λ n. counter)
+
+-- ---- the page call
+-- its checks: 1 2 17 3 4 5 6, of which 6 leaves the ticket's count aside
+unfoldable pub cursorCause : Shape → List ℤ → List ℕ → Cursor → ℕ
+cursorCause s cells order c = orderCause s cells order orElse unless (isSome (resume (overlay s cells) c)) 6
+
+-- and then 18
+unfoldable pub pageCause : Shape → List ℤ → List ℕ → Ticket → List ℕ → ℕ
+pageCause s cells order t counter = cursorCause s cells order (t .cursor) orElse unless (current (t .count) counter) 18
 
 -- 01's number of each stop: 0 where the call is accepted
 abbrev pub stopNumber : Stop → ℕ
@@ -44,17 +73,22 @@ stopNumber Spent = 0
 stopNumber (Refused cause) = cause
 
 -- 01: "A refusal returns its number and 0 for all else; a page call also returns its ticket as given"
-abbrev pub refusedPage : Cursor → ℕ → Page
-refusedPage c cause = record { stop = Refused cause; rows = 0; probes = 0; area = totalOf 0; cursor = c }
+abbrev pub refusedPage : Ticket → ℕ → Page
+refusedPage t cause = record { stop = Refused cause; rows = 0; probes = 0; area = totalOf 0; ticket = t }
 
-unfoldable pub pageCall : Shape → List ℤ → List ℕ → Cursor → ℕ → List ℕ → Page
-pageCall s cells order c budget table =
-    let o = overlay s cells in onCause (pageCause s cells order c) (pageOf o (paged o c budget table)) (refusedPage c)
+unfoldable pub pageCall : Shape → List ℤ → List ℕ → Ticket → List ℕ → ℕ → List ℕ → Page
+pageCall s cells order t counter budget table =
+    let o = overlay s cells in onCause (pageCause s cells order t counter) (pageOf o (t .count) (paged o (t .cursor) budget table)) (refusedPage t)
+
+-- the counter afterwards. 02: "an accepted page call writes the new count"; after a refusal "the record is left as it was"
+unfoldable pub pageCounter : Shape → List ℤ → List ℕ → Ticket → List ℕ → ℕ → List ℕ → List ℕ
+pageCounter s cells order t counter budget table =
+    onCause (pageCause s cells order t counter) ((t .count + paged (overlay s cells) (t .cursor) budget table .done) ∷ []) (λ n. counter)
 
 -- the table afterwards: filled with the page's rows, or after a refusal what it was
-unfoldable pub pageTable : Shape → List ℤ → List ℕ → Cursor → ℕ → List ℕ → List ℕ
-pageTable s cells order c budget table =
-    let o = overlay s cells in onCause (pageCause s cells order c) (fill (map (placesOf (o .sizes)) (paged o c budget table .rows)) table) (λ n. table)
+unfoldable pub pageTable : Shape → List ℤ → List ℕ → Ticket → List ℕ → ℕ → List ℕ → List ℕ
+pageTable s cells order t counter budget table =
+    let o = overlay s cells in onCause (pageCause s cells order t counter) (fill (map (placesOf (o .sizes)) (paged o (t .cursor) budget table .rows)) table) (λ n. table)
 
 -- ---- the whole run
 -- its checks: 1 2 17 3 4 5, and 7 where "J has more rows than the table takes"

@@ -1,7 +1,7 @@
 -- Theorem: demand 3, over every list of page calls on a plan, and of the whole run; and the causes of the calls. Proved in proofs/Theorems.antt.
 -- Sentences in quotes are the demand's; those of the scope paper begin with 01.
 use mathlib.Core.Path.{_≡_}
-use mathlib.Core.List.{List, [], _∷_, _++_, map}
+use mathlib.Core.List.{List, [], _∷_, _++_, map, List·Memᴰ}
 use mathlib.Core.Bool.{true, false, _&&_}
 use mathlib.Core.Logic.{_↔_, _⊎_}
 use mathlib.Core.Option.{some}
@@ -12,6 +12,7 @@ use lib.ListN.{length, getD, take, drop}
 use Rattle.lists.specs.Lists.{All, sum, keep}
 use Rattle.totals.specs.Totals.{totalOf, valueOf}
 use Rattle.plan.specs.declared.Shape.{Shape}
+use Rattle.plan.specs.Causes.{onCause}
 use Rattle.plan.specs.Plan.{layersOf, sizesOf, Typed, Sound, grown}
 use Rattle.plan.specs.Spots.{Has, spotOf}
 use Rattle.sweep.specs.Sweep.{sweepOrder, orderCause}
@@ -24,13 +25,14 @@ use Rattle.search.specs.Names.{Named}
 use Rattle.walk.specs.Walk.{guardAt, walkOf, placesOf}
 use Rattle.walk.specs.Theorems.{WalkIsTable}
 use Rattle.paging.specs.declared.Cursor.{Cursor}
+use Rattle.paging.specs.declared.Ticket.{Ticket}
 use Rattle.paging.specs.declared.Page.{Page}
 use Rattle.paging.specs.declared.Run.the-variants as Run
 use Rattle.search.specs.declared.Stop.the-variants.{Ended, Full, Spent, Refused}
 use Rattle.paging.specs.Overlays.{Overlay, overlay}
 use Rattle.paging.specs.Cursors.{cursorOf, endedCursor, dueCursor, resume}
 use Rattle.paging.specs.Pages.{room}
-use Rattle.paging.specs.Calls.{freshCall, stopNumber, pageCause, pageCall, pageTable, runCause, runCall, runTable, RunValues, runValues, crossingRunCause, crossingCall, crossingTable}
+use Rattle.paging.specs.Calls.{freshCause, freshCall, freshCounter, stopNumber, pageCause, pageCall, pageTable, pageCounter, runCause, runCall, runTable, RunValues, runValues, crossingRunCause, crossingCall, crossingTable}
 use Rattle.crossings.specs.ClassCall.{crossingCause}
 
 -- ---- page calls
@@ -39,35 +41,73 @@ pub record Call : Type 0 where
   pub shape : Shape
   pub cells : List ℤ
   pub order : List ℕ
-  pub cursor : Cursor
+  pub ticket : Ticket
+  pub counter : List ℕ
   pub budget : ℕ
   pub table : List ℕ
 
--- a call in a list: the cause that refuses it, the cursor, budget and table that it brought, what it answered, and its table afterwards
+-- a call in a list: the cause that refuses it, the ticket, counter, budget and table that it brought, what it answered, and its table and its counter
+-- afterwards
 pub record Served : Type 0 where
   pub cause : ℕ
-  pub cursor : Cursor
+  pub ticket : Ticket
+  pub counter : List ℕ
   pub budget : ℕ
   pub table : List ℕ
   pub answer : Page
   pub after : List ℕ
+  pub counted : List ℕ
 
 abbrev pub served : Call → Served
 served x = record {
-  cause = pageCause (x .shape) (x .cells) (x .order) (x .cursor);
-  cursor = x .cursor;
+  cause = pageCause (x .shape) (x .cells) (x .order) (x .ticket) (x .counter);
+  ticket = x .ticket;
+  counter = x .counter;
   budget = x .budget;
   table = x .table;
-  answer = pageCall (x .shape) (x .cells) (x .order) (x .cursor) (x .budget) (x .table);
-  after = pageTable (x .shape) (x .cells) (x .order) (x .cursor) (x .budget) (x .table);
+  answer = pageCall (x .shape) (x .cells) (x .order) (x .ticket) (x .counter) (x .budget) (x .table);
+  after = pageTable (x .shape) (x .cells) (x .order) (x .ticket) (x .counter) (x .budget) (x .table);
+  counted = pageCounter (x .shape) (x .cells) (x .order) (x .ticket) (x .counter) (x .budget) (x .table);
 }
 
 -- 01: "each accepted call brings the same plan, and the ticket returned by the accepted call before it or, if there is none, the fresh one. A refused
--- call may bring anything, and the ticket it gives back does not count." c is the cursor that is due
-pub data Chain (s : Shape) (cells : List ℤ) : Cursor → List Call → Type 0 where
-  end : {c : Cursor} → Chain s cells c []
-  refused : {c : Cursor} {x : Call} {xs : List Call} → (served x .cause ≡ 0 → ⊥) → Chain s cells c xs → Chain s cells c (x ∷ xs)
-  accepted : {c : Cursor} {x : Call} {xs : List Call} → served x .cause ≡ 0 → x .shape ≡ s → x .cells ≡ cells → x .cursor ≡ c → Chain s cells (served x .answer .cursor) xs → Chain s cells c (x ∷ xs)
+-- call may bring anything, and the ticket it gives back does not count." t is the ticket that is due
+pub data Chain (s : Shape) (cells : List ℤ) : Ticket → List Call → Type 0 where
+  end : {t : Ticket} → Chain s cells t []
+  refused : {t : Ticket} {x : Call} {xs : List Call} → (served x .cause ≡ 0 → ⊥) → Chain s cells t xs → Chain s cells t (x ∷ xs)
+  accepted : {t : Ticket} {x : Call} {xs : List Call} → served x .cause ≡ 0 → x .shape ≡ s → x .cells ≡ cells → x .ticket ≡ t → Chain s cells (served x .answer .ticket) xs → Chain s cells t (x ∷ xs)
+
+-- ---- runs (02, Q-5)
+-- a run so far: the ticket that its fresh start or its last accepted call returned, those that they returned before, and its counter as that call left it
+pub record Course : Type 0 where
+  pub newest : Ticket
+  pub earlier : List Ticket
+  pub counter : List ℕ
+
+-- as a fresh start begins it
+abbrev pub begun : Shape → List ℤ → List ℕ → List ℕ → Course
+begun s cells order counter = record { newest = freshCall s cells order counter .ticket; earlier = []; counter = freshCounter s cells order counter }
+
+-- behind an accepted call
+abbrev pub advanced : Course → Served → Course
+advanced r x = record { newest = x .answer .ticket; earlier = r .newest ∷ r .earlier; counter = x .counted }
+
+-- behind a list of calls, of which the refused ones do not count
+abbrev pub courseAfter : Course → List Served → Course
+courseAfter r [] = r
+courseAfter r (x ∷ xs) = courseAfter (onCause (x .cause) (advanced r x) (λ n. r)) xs
+
+-- a ticket of the run
+abbrev pub OfRun : Course → Ticket → Type 0
+OfRun r t = List·Memᴰ t (r .newest ∷ r .earlier)
+
+-- 02: "A list of page calls may from then on bring any ticket of its run". Each accepted call brings the same plan, such a ticket, and "the run's own record
+-- too, as the fresh start that began the run, or the last accepted call, left it". A refused call may bring anything; that a stale ticket is refused
+-- is `TicketsHold`. r is the run so far
+pub data OneRun (s : Shape) (cells : List ℤ) : Course → List Call → Type 0 where
+  run-end : {r : Course} → OneRun s cells r []
+  run-refused : {r : Course} {x : Call} {xs : List Call} → (served x .cause ≡ 0 → ⊥) → OneRun s cells r xs → OneRun s cells r (x ∷ xs)
+  run-accepted : {r : Course} {x : Call} {xs : List Call} → served x .cause ≡ 0 → x .shape ≡ s → x .cells ≡ cells → OfRun r (x .ticket) → x .counter ≡ r .counter → OneRun s cells (advanced r (served x)) xs → OneRun s cells r (x ∷ xs)
 
 -- ---- what a list of calls did
 -- n rows of k cells, from the first cell on
@@ -127,11 +167,19 @@ pub record NamesProbe (ns : List ℕ) (cells : List ℤ) (c : Cursor) : Type 0 w
 abbrev pub Good : List ℕ → List ℤ → Cursor → Type 0
 Good ns cells c = (c ≡ endedCursor) ⊎ NamesProbe ns cells c
 
+-- 02: "the record is not one cell, or for a page call holds 2^57 or more or differs from the ticket's count"
+abbrev pub Stale : (count : ℕ) → List ℕ → Type 0
+Stale count counter = (length counter ≡ 1 → ⊥) ⊎ ((144115188075855872 ≤ getD counter 0 0) ⊎ (getD counter 0 0 ≡ count → ⊥))
+
 -- each cause of the calls applies in exactly the stated case, and where no earlier one does (1 to 5 and 17: `Plans` of the crate plan, `Sweeps` of sweep)
-pub record CallCauses (s : Shape) (cells : List ℤ) (order : List ℕ) (c : Cursor) (table : List ℕ) : Type 0 where
-  pub page : (pageCause s cells order c ≡ 0) ↔ ((orderCause s cells order ≡ 0) × Good (sizesOf s) (grown s cells) c)
-  pub page-others : (n : ℕ) → 0 < n → (n ≡ 6 → ⊥) → (pageCause s cells order c ≡ n) ↔ (orderCause s cells order ≡ n)
-  pub six : (pageCause s cells order c ≡ 6) ↔ ((orderCause s cells order ≡ 0) × (Good (sizesOf s) (grown s cells) c → ⊥))
+pub record CallCauses (s : Shape) (cells : List ℤ) (order : List ℕ) (t : Ticket) (counter : List ℕ) (table : List ℕ) : Type 0 where
+  pub fresh : (freshCause s cells order counter ≡ 0) ↔ ((orderCause s cells order ≡ 0) × (length counter ≡ 1))
+  pub fresh-eighteen : (freshCause s cells order counter ≡ 18) ↔ ((orderCause s cells order ≡ 0) × (length counter ≡ 1 → ⊥))
+  pub fresh-others : (n : ℕ) → 0 < n → (n ≡ 18 → ⊥) → (freshCause s cells order counter ≡ n) ↔ (orderCause s cells order ≡ n)
+  pub page : (pageCause s cells order t counter ≡ 0) ↔ ((orderCause s cells order ≡ 0) × Good (sizesOf s) (grown s cells) (t .cursor) × (Stale (t .count) counter → ⊥))
+  pub six : (pageCause s cells order t counter ≡ 6) ↔ ((orderCause s cells order ≡ 0) × (Good (sizesOf s) (grown s cells) (t .cursor) → ⊥))
+  pub eighteen : (pageCause s cells order t counter ≡ 18) ↔ ((orderCause s cells order ≡ 0) × Good (sizesOf s) (grown s cells) (t .cursor) × Stale (t .count) counter)
+  pub page-others : (n : ℕ) → 0 < n → (n ≡ 6 → ⊥) → (n ≡ 18 → ⊥) → (pageCause s cells order t counter ≡ n) ↔ (orderCause s cells order ≡ n)
   pub run : (runCause s cells order table ≡ 0) ↔ ((orderCause s cells order ≡ 0) × (length (overlay s cells .table) ≤ room (overlay s cells) table))
   pub run-others : (n : ℕ) → 0 < n → (n ≡ 7 → ⊥) → (runCause s cells order table ≡ n) ↔ (orderCause s cells order ≡ n)
   pub seven : (runCause s cells order table ≡ 7) ↔ ((orderCause s cells order ≡ 0) × (room (overlay s cells) table < length (overlay s cells .table)))
@@ -140,20 +188,21 @@ pub record CallCauses (s : Shape) (cells : List ℤ) (order : List ℕ) (c : Cur
 -- buffer is left as it was
 pub record Refuses (x : Call) : Type 0 where
   -- the number that each call tells
-  pub fresh-number : freshCall (x .shape) (x .cells) (x .order) .number ≡ orderCause (x .shape) (x .cells) (x .order)
+  pub fresh-number : freshCall (x .shape) (x .cells) (x .order) (x .counter) .number ≡ freshCause (x .shape) (x .cells) (x .order) (x .counter)
   pub page-number : stopNumber (served x .answer .stop) ≡ served x .cause
   pub run-number : runValues (runCall (x .shape) (x .cells) (x .order) (x .table)) .number ≡ runCause (x .shape) (x .cells) (x .order) (x .table)
   -- an accepted run is told as one
   pub run-done : runCause (x .shape) (x .cells) (x .order) (x .table) ≡ 0 → (n : ℕ) → runCall (x .shape) (x .cells) (x .order) (x .table) ≡ Run.Refused n → ⊥
   -- all else
-  pub fresh : (n : ℕ) → orderCause (x .shape) (x .cells) (x .order) ≡ suc n
-      → freshCall (x .shape) (x .cells) (x .order) ≡ record { number = suc n; cursor = record { ended = true; layer = 0; place = 0; filled = 0; chosen = 0 ∷ 0 ∷ 0 ∷ 0 ∷ 0 ∷ []; next = 0 } }
+  pub fresh : (n : ℕ) → freshCause (x .shape) (x .cells) (x .order) (x .counter) ≡ suc n
+      → (freshCall (x .shape) (x .cells) (x .order) (x .counter) ≡ record { number = suc n; ticket = record { cursor = record { ended = true; layer = 0; place = 0; filled = 0; chosen = 0 ∷ 0 ∷ 0 ∷ 0 ∷ 0 ∷ []; next = 0 }; count = 0 } })
+      × (freshCounter (x .shape) (x .cells) (x .order) (x .counter) ≡ x .counter)
   pub page : (n : ℕ) → served x .cause ≡ suc n
-      → (served x .answer ≡ record { stop = Refused (suc n); rows = 0; probes = 0; area = totalOf 0; cursor = x .cursor }) × (served x .after ≡ x .table)
+      → (served x .answer ≡ record { stop = Refused (suc n); rows = 0; probes = 0; area = totalOf 0; ticket = x .ticket }) × (served x .after ≡ x .table) × (served x .counted ≡ x .counter)
   pub run : (n : ℕ) → runCause (x .shape) (x .cells) (x .order) (x .table) ≡ suc n
       → (runValues (runCall (x .shape) (x .cells) (x .order) (x .table)) ≡ record { number = suc n; rows = 0; probes = 0; area = totalOf 0 }) × (runTable (x .shape) (x .cells) (x .order) (x .table) ≡ x .table)
 
--- ---- one accepted page call on an overlay; w is what is left of the walk at its cursor
+-- ---- one accepted page call on an overlay; w is what is left of the walk at its ticket
 pub record PageHolds {S : Type 0} (o : Overlay S) (x : Served) (w : List (Probe S)) : Type 0 where
   -- it does the first probes that are left, and puts out the rows that they yield
   pub rows : rowsIn (length (o .sizes)) (x .answer .rows) (x .after) ≡ map (placesOf (o .sizes)) (rowsOf rowOf (take (x .answer .probes) w))
@@ -163,9 +212,11 @@ pub record PageHolds {S : Type 0} (o : Overlay S) (x : Served) (w : List (Probe 
   pub spent : (x .answer .stop ≡ Spent) ↔ ((x .answer .probes < length w) × (x .answer .rows < room o (x .table)) × (x .answer .probes ≡ x .budget))
   pub stops : (x .answer .stop ≡ Ended) ⊎ ((x .answer .stop ≡ Full) ⊎ (x .answer .stop ≡ Spent))
   pub going : (d : ℕ) → d < x .answer .probes → (length (rowsOf rowOf (take d w)) < room o (x .table)) × (d < x .budget)
-  -- the sum of its rows' areas in square millimetres, and the cursor for what is due next
+  -- the sum of its rows' areas in square millimetres
   pub area : valueOf (x .answer .area) ≡ sum (map (o .area) (rowsIn (length (o .sizes)) (x .answer .rows) (x .after)))
-  pub cursor : x .answer .cursor ≡ dueCursor (o .sizes) (drop (x .answer .probes) w)
+  -- the ticket for what is due next, with "the new count"; the counter holds it too
+  pub ticket : x .answer .ticket ≡ record { cursor = dueCursor (o .sizes) (drop (x .answer .probes) w); count = x .ticket .count + x .answer .probes }
+  pub counted : x .counted ≡ (x .ticket .count + x .answer .probes) ∷ []
   -- 01: "Rows fill it from its first cell; the rest keeps its contents."
   pub long : length (x .after) ≡ length (x .table)
   pub kept : drop (length (o .sizes) * x .answer .rows) (x .after) ≡ drop (length (o .sizes) * x .answer .rows) (x .table)
@@ -187,8 +238,17 @@ pub record PagingHolds {S : Type 0} (o : Overlay S) (xs : List Served) : Type 0 
   -- 01: "The reported area sums add up to these rows' areas."
   pub areas : sum (map (λ x. valueOf (x .answer .area)) xs) ≡ sum (map (o .area) (handed (length (o .sizes)) xs))
   -- 01: "The ticket that the last accepted call returns names the trial that comes next in the walk after as many as were reported in all, or says Ended
-  -- where none comes."
-  pub last : (x : Served) → Last xs x → x .answer .cursor ≡ dueCursor (o .sizes) (drop (reported xs) (o .walk))
+  -- where none comes." 02: it "carries the trials done so far"
+  pub last : (x : Served) → Last xs x → x .answer .ticket ≡ record { cursor = dueCursor (o .sizes) (drop (reported xs) (o .walk)); count = reported xs }
+
+-- 02, Q-5, of a list of calls in the run r; q is the run behind some first calls of the list
+pub record TicketsHold (r : Course) (xs : List Served) : Type 0 where
+  -- 02: "Every ticket, Ended too, carries the trials done so far", and a run record "holds the same number"
+  pub counts : (ys zs : List Served) → xs ≡ ys ++ zs → let q = courseAfter r ys in (q .newest .count ≡ reported ys) × (q .counter ≡ reported ys ∷ [])
+  -- 02: "any ticket of its run: one with another count is refused", whatever plan, order, budget and table the call brings with it and the run's own record
+  pub stale : (ys zs : List Served) (x : Call) → xs ≡ ys ++ zs → let q = courseAfter r ys in OfRun q (x .ticket) → x .counter ≡ q .counter → (x .ticket .count ≡ q .newest .count → ⊥) → served x .cause ≡ 0 → ⊥
+  -- "and one with the same count equals the last one."
+  pub same : (ys zs : List Served) (t : Ticket) → xs ≡ ys ++ zs → let q = courseAfter r ys in OfRun q t → t .count ≡ q .newest .count → t ≡ q .newest
 
 -- 01: plan and order "are sound for the whole run when none of its checks before 7 refuses". "Given a sound plan and order, the whole run succeeds exactly when the table fits, and then hands out all its rows and reports that length." Of a run into a
 -- table: the cause that refuses it, what it answered, and its table afterwards
@@ -209,23 +269,28 @@ pub record Demand3 : Type 0 where
   -- its overlay is made of these, of the sizes of its layers, and of the areas of rows, all of the grown plan
   pub both : (s : Shape) (cells : List ℤ) → let ns = sizesOf s in let g = grown s cells in overlay s cells ≡ record { sizes = ns; walk = walkOf ns g; table = tableOf ns g; area = areaIn (layersOf ns g) }
   -- the causes of the calls
-  pub causes : (s : Shape) (cells : List ℤ) (order : List ℕ) (c : Cursor) (table : List ℕ) → Typed s → CallCauses s cells order c table
+  pub causes : (s : Shape) (cells : List ℤ) (order : List ℕ) (t : Ticket) (counter table : List ℕ) → Typed s → CallCauses s cells order t counter table
   -- what a refused call returns and leaves
   pub refused : (x : Call) → Refuses x
   -- 01: "never more than 1,000,000"
   pub cap : (s : Shape) (cells : List ℤ) (table : List ℕ) → room (overlay s cells) table ≡ min (length table / length (sizesOf s)) 1000000
-  -- 01: "returns the fresh ticket: the first trial, or Ended where the walk is empty": the cursor of the whole walk
-  pub fresh : (s : Shape) (cells : List ℤ) (order : List ℕ) → orderCause s cells order ≡ 0 → let o = overlay s cells in freshCall s cells order ≡ record { number = 0; cursor = dueCursor (o .sizes) (o .walk) }
+  -- 01: "returns the fresh ticket: the first trial, or Ended where the walk is empty": the cursor of the whole walk. 02: "A fresh start writes 0"
+  pub fresh : (s : Shape) (cells : List ℤ) (order counter : List ℕ) → orderCause s cells order ≡ 0 → length counter ≡ 1
+      → let o = overlay s cells in (freshCall s cells order counter ≡ record { number = 0; ticket = record { cursor = dueCursor (o .sizes) (o .walk); count = 0 } }) × (freshCounter s cells order counter ≡ 0 ∷ [])
   -- the cursor of each probe says which it is
   pub says : (s : Shape) (cells : List ℤ) → Sound s cells → All (λ t. Says (sizesOf s) (cursorOf (sizesOf s) t) t) (overlay s cells .walk)
-  -- the cursor of what is left after any number of probes is accepted, and names just that
-  pub taken : (s : Shape) (cells : List ℤ) (n : ℕ) → Sound s cells
-      → let o = overlay s cells in let w = drop n (o .walk) in (pageCause s cells (sweepOrder (grown s cells)) (dueCursor (o .sizes) w) ≡ 0) × (resume o (dueCursor (o .sizes) w) ≡ some w)
+  -- the cursor of what is left after any number of probes is accepted, with any count below 2^57 that the counter holds, and names just that
+  pub taken : (s : Shape) (cells : List ℤ) (order : List ℕ) (n count : ℕ) → Typed s → orderCause s cells order ≡ 0 → count < 144115188075855872
+      → let o = overlay s cells in let w = drop n (o .walk) in (pageCause s cells order (record { cursor = dueCursor (o .sizes) w; count = count }) (count ∷ []) ≡ 0) × (resume o (dueCursor (o .sizes) w) ≡ some w)
   -- each accepted call: its cursor is that of what is left after some number of probes, and the page is of that
   pub page : (x : Call) → Typed (x .shape) → served x .cause ≡ 0
-      → let o = overlay (x .shape) (x .cells) in (n : ℕ) × (x .cursor ≡ dueCursor (o .sizes) (drop n (o .walk))) × PageHolds o (served x) (drop n (o .walk))
-  -- every list of page calls whose first accepted call brings the fresh cursor, on any plan
-  pub paging : (s : Shape) (cells : List ℤ) (xs : List Call) → Typed s → Chain s cells (freshCall s cells (sweepOrder (grown s cells)) .cursor) xs → PagingHolds (overlay s cells) (map served xs)
+      → let o = overlay (x .shape) (x .cells) in (n : ℕ) × (x .ticket .cursor ≡ dueCursor (o .sizes) (drop n (o .walk))) × PageHolds o (served x) (drop n (o .walk))
+  -- every list of page calls in the run that an accepted fresh start begins
+  pub paging : (s : Shape) (cells : List ℤ) (order counter : List ℕ) (xs : List Call) → Typed s → freshCause s cells order counter ≡ 0 → OneRun s cells (begun s cells order counter) xs
+      → PagingHolds (overlay s cells) (map served xs) × TicketsHold (begun s cells order counter) (map served xs)
+  -- as 01 has it: each accepted call brings the ticket that is due, the first one the fresh ticket, on any plan. It follows from `paging`: an accepted call
+  -- brings the counter of its ticket
+  pub chained : (s : Shape) (cells : List ℤ) (xs : List Call) → Typed s → Chain s cells (freshCall s cells (sweepOrder (grown s cells)) (0 ∷ []) .ticket) xs → PagingHolds (overlay s cells) (map served xs)
   -- the whole run
   pub run : (s : Shape) (cells : List ℤ) (order table : List ℕ) → Typed s → orderCause s cells order ≡ 0
       → RunHolds s cells table (runCause s cells order table) (runValues (runCall s cells order table)) (runTable s cells order table)

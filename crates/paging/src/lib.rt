@@ -1,10 +1,10 @@
-// Cursors, pages and whole runs: the types of the calls' answers. What the calls answer is defined in specs/, what demand 3 says of
+// Cursors, tickets, pages and whole runs: the types of the calls' answers. What the calls answer is defined in specs/, what demand 3 says of
 // lists of calls is proved in proofs/; the code of the calls is in the crate `pager`.
 
 use search::Stop;
 use totals::Total;
 
-// Names the probe due next (01: a ticket): the guard's layer, from 1, and place, how many slots are filled, the chosen places, first
+// Names the probe due next: the guard's layer, from 1, and place, how many slots are filled, the chosen places, first
 // slot first, unfilled ones 0, and the place to try. Or the walk has ended, and all else is 0.
 pub struct Cursor {
     pub ended: bool,
@@ -15,20 +15,26 @@ pub struct Cursor {
     pub next: u32,
 }
 
-// What the fresh-cursor call answers: the number of a refusal or 0, and the cursor of the first probe, or ended.
+// What goes from call to call (01 and 02: a ticket): the cursor, and how many probes its run has done so far.
+pub struct Ticket {
+    pub cursor: Cursor,
+    pub count: u64,
+}
+
+// What the fresh-ticket call answers: the number of a refusal or 0, and the ticket of the first probe, or ended.
 pub struct Fresh {
     pub number: u32,
-    pub cursor: Cursor,
+    pub ticket: Ticket,
 }
 
 // What the page call answers: why it stopped, how many rows it put into the table, how many probes it did, the sum of its rows'
-// areas, and the cursor for what is due next.
+// areas, and the ticket for what is due next.
 pub struct Page {
     pub stop: Stop,
     pub rows: u32,
     pub probes: u32,
     pub area: Total,
-    pub cursor: Cursor,
+    pub ticket: Ticket,
 }
 
 // What the whole run answers: how many rows, how many probes, and the sum of the areas.

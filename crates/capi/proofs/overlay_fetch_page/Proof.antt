@@ -1,14 +1,14 @@
--- `capi::overlay_fetch_page`: the page from the cursor in the cells, laid out.
+-- `capi::overlay_fetch_page`: the page from the ticket in the cells, laid out.
 use borrow.Author.Needs.{needs}
 use mathlib.Core.Path.{ap, _∙_}
-use Rattle.paging.specs.declared.Cursor.{Cursor}
-use Rattle.paging.specs.Calls.{pageCause, pageCall, pageTable}
-use Rattle.cells.specs.Cells.{shapeOf, pageCells, cursorAfter}
+use Rattle.paging.specs.declared.Ticket.{Ticket}
+use Rattle.paging.specs.Calls.{pageCause, pageCall, pageTable, pageCounter}
+use Rattle.cells.specs.Cells.{shapeOf, pageCells, ticketAfter}
 use Rattle.capi.proofs.overlay_fetch_page.Statement.{statement}
 use Rattle.capi.proofs.overlay_fetch_page.Tie as tie
 
-cursor-in-requires : tie.Need-cursor-in-requires
-cursor-in-requires c κs = search needs
+ticket-in-requires : tie.Need-ticket-in-requires
+ticket-in-requires c κs = search needs
 
 fetch-page-requires : tie.Need-fetch-page-requires
 fetch-page-requires c κs = search needs
@@ -16,8 +16,8 @@ fetch-page-requires c κs = search needs
 page-cells-requires : tie.Need-page-cells-requires
 page-cells-requires c κs = search needs
 
-cursor-after-requires : tie.Need-cursor-after-requires
-cursor-after-requires c κs = search needs
+ticket-after-requires : tie.Need-ticket-after-requires
+ticket-after-requires c κs = search needs
 
 stop-number-requires : tie.Need-stop-number-requires
 stop-number-requires c κs = search needs
@@ -25,24 +25,44 @@ stop-number-requires c κs = search needs
 same-length : tie.Need-same-length
 same-length c = search needs
 
+same-length-2 : tie.Need-same-length-2
+same-length-2 c = search needs
+
 returns : tie.Need-returns
 returns c =
-    let f = c .before .before .before .before .before .before in
-    let i = f .before .before in
-    let a = i .before .before .before .before .before .before .args in
+    let g : tie.After-stop-number = search needs in
+    let w : tie.After-ticket-after = search needs in
+    let q : tie.After-page-cells = search needs in
+    let f : tie.After-fetch-page = search needs in
+    let i : tie.After-ticket-in = search needs in
+    let z : tie.Start = i .before .before .before .before .before .before .before in
+    let a = z .args in
     let s = shapeOf (a .k) (a .sizes .now) (a .margins .now) in
-    let from = i .cursor-in .ensures in
-    let page = f .fetch-page .ensures .0 ∙ ap (λ (u : Cursor). pageCall s (a .cells .now) (a .order .now) u (a .budget) (a .table .now)) from in
-    (c .stop-number .ensures ∙ f .fetch-page .ensures .1 .0 ∙ ap (pageCause s (a .cells .now) (a .order .now)) from, (c .before .before .before .page-cells .ensures ∙ ap pageCells page, (c .before .cursor-after .ensures ∙ ap (cursorAfter (a .cursor .now)) page, f .fetch-page .ensures .1 .1 ∙ ap (λ (u : Cursor). pageTable s (a .cells .now) (a .order .now) u (a .budget) (a .table .now)) from)))
+    let told = f .fetch-page .ensures in
+    let from = i .ticket-in .ensures in
+    let page = told .0 ∙ ap (λ (t : Ticket). pageCall s (a .cells .now) (a .order .now) t (a .counter .now) (a .budget) (a .table .now)) from in (
+      g .stop-number .ensures ∙ (told .1 .0 ∙ ap (λ (t : Ticket). pageCause s (a .cells .now) (a .order .now) t (a .counter .now)) from),
+      (
+        q .page-cells .ensures ∙ ap pageCells page,
+        (
+          w .ticket-after .ensures ∙ ap (ticketAfter (a .ticket .now)) page,
+          (
+            told .1 .1 .0 ∙ ap (λ (t : Ticket). pageCounter s (a .cells .now) (a .order .now) t (a .counter .now) (a .budget) (a .table .now)) from,
+            told .1 .1 .1 ∙ ap (λ (t : Ticket). pageTable s (a .cells .now) (a .order .now) t (a .counter .now) (a .budget) (a .table .now)) from,
+          ),
+        ),
+      ),
+    )
 
 pub overlay-fetch-page-spec : {M : Type 1} → statement M
 overlay-fetch-page-spec =
     tie.close
     (tie.spec
-    cursor-in-requires
+    ticket-in-requires
     fetch-page-requires
     page-cells-requires
-    cursor-after-requires
+    ticket-after-requires
     stop-number-requires
     same-length
+    same-length-2
     returns)

@@ -11,7 +11,7 @@ typed : (c : tie.Start) → Typed (c .args .shape)
 typed c = record { sizes = search needs; margins = search needs }
 
 -- the checks are passed
-opening : (c : tie.After-frame-of) → let a = c .before .before .before .before .before .before .before .args in Admitted (a .shape) (a .cells .now) (a .order .now) (take (length (a .cells .now)) (c .before .before .before .open-plan .last .1 .1 .1 .0)) (c .frame-of .result)
+opening : (c : tie.After-frame-of) → let a = c .before .before .before .before .before .before .before .before .args in Admitted (a .shape) (a .cells .now) (a .order .now) (take (length (a .cells .now)) (c .before .before .before .open-plan .last .1 .1 .1 .0)) (c .frame-of .result)
 opening c = let s : tie.Start = search needs in let e : tie.Else1 = search needs in admitted _ _ _ _ _ _ (typed s) (c .before .before .before .open-plan .ensures) (e .if1 .left) (c .frame-of .ensures)
 
 slice-aggregate-open-plan : tie.Need-slice-aggregate-open-plan
@@ -28,7 +28,7 @@ returns c =
     let s : tie.Start = search needs in
     let k : tie.After-open-plan = search needs in
     let a = s .args in
-    page-refused (a .shape) (a .cells .now) (a .order .now) (a .cursor) (a .budget) (a .table .now) _ (k .open-plan .ensures .number) (c .before .if1 .taken) _ (c .refused-page .ensures)
+    page-refused (a .shape) (a .cells .now) (a .order .now) (a .ticket) (a .counter .now) (a .budget) (a .table .now) _ (k .open-plan .ensures .number) (c .before .if1 .taken) _ (c .refused-page .ensures)
 
 frame-of-requires : tie.Need-frame-of-requires
 frame-of-requires c κs = search needs
@@ -48,12 +48,15 @@ page-at-requires c κs = let k : tie.After-frame-of = search needs in let o = op
 same-length : tie.Need-same-length
 same-length c = search needs
 
+same-length-2 : tie.Need-same-length-2
+same-length-2 c = search needs
+
 returns-2 : tie.Need-returns-2
 returns-2 c =
     let k : tie.After-frame-of = search needs in
     let p : tie.After-page-at = search needs in
-    let a = k .before .before .before .before .before .before .before .args in
-    page-made (a .shape) (a .cells .now) (a .order .now) (a .cursor) (a .budget) (a .table .now) _ (k .frame-of .result) (opening k) _ _ (p .page-at .ensures)
+    let a = k .before .before .before .before .before .before .before .before .args in
+    page-made (a .shape) (a .cells .now) (a .order .now) (a .ticket) (a .counter .now) (a .budget) (a .table .now) _ (k .frame-of .result) (opening k) _ _ _ (p .page-at .ensures)
 
 pub fetch-page-spec : {M : Type 1} → statement M
 fetch-page-spec =
@@ -68,4 +71,5 @@ fetch-page-spec =
     slice-aggregate-page-at
     page-at-requires
     same-length
+    same-length-2
     returns-2)

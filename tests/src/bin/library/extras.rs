@@ -59,7 +59,7 @@ fn orders(seeds: &mut Seeds, plan: &Plan) -> Result<u64, String> {
     Ok(cases)
 }
 
-/// Cells whose flag is neither 0 nor 1 are refused as 6, and stay what they were, as the table does.
+/// Cells whose flag is neither 0 nor 1 are refused as 6, and stay what they were, as table and record do.
 fn flags(seeds: &mut Seeds, plan: &Plan) -> Result<u64, String> {
     let good = order(plan);
     let first = tickets(plan).first().copied().unwrap_or(Ticket::ENDED);
@@ -68,11 +68,32 @@ fn flags(seeds: &mut Seeds, plan: &Plan) -> Result<u64, String> {
         for flag in [2, 3, 256, u32::MAX] {
             let mut given = cells_of(&ticket);
             given[0] = flag;
-            let (mut cursor, mut table) = (given, cells_u32(24));
-            let (number, answer) = fetch_page(&plan.shape, &plan.cells, &good, &mut cursor, 9, &mut table);
-            let told = (number, answer, cursor, table);
-            cases += expect("flags", plan, told, (6, [0; 4], given, cells_u32(24)))?;
+            let (mut after, mut record, mut table) = (given, [ticket.count], cells_u32(24));
+            let (number, answer) =
+                fetch_page(&plan.shape, &plan.cells, &good, (&mut after, &mut record), 9, &mut table);
+            let told = (number, answer, after, record, table);
+            cases += expect("flags", plan, told, (6, [0; 4], given, [ticket.count], cells_u32(24)))?;
         }
+    }
+    Ok(cases)
+}
+
+/// The count of a ticket stands in its last two cells, the lower half first: a run that has done so many trials, which end
+/// past 2^32 at times.
+fn counts(seeds: &mut Seeds, plan: &Plan) -> Result<u64, String> {
+    let (good, all) = (order(plan), tickets(plan));
+    let mut cases = 0;
+    for (low, high) in [(0, 0), (5, 0), (0, 7), (u32::MAX, 0), (u32::MAX, 3), (9, (1 << 25) - 1)] {
+        let (ticket, budget) = (all.first().copied().unwrap_or(Ticket::ENDED), seeds.below(9) as u32);
+        let mut given = cells_of(&ticket);
+        [given[10], given[11]] = [low, high];
+        let count = u64::from(high) * (1 << 32) + u64::from(low);
+        let (mut record, mut table) = ([count], cells_u32(2_000));
+        let (number, answer) =
+            fetch_page(&plan.shape, &plan.cells, &good, (&mut given, &mut record), budget, &mut table);
+        let done = count + answer[2];
+        let due = (0, [(done % (1 << 32)) as u32, (done / (1 << 32)) as u32], [done]);
+        cases += expect("counts", plan, (number, [given[10], given[11]], record), due)?;
     }
     Ok(cases)
 }
@@ -96,6 +117,7 @@ pub fn compare_extras() -> Result<u64, String> {
         cases += causes(&mut seeds, &plan)?;
         cases += orders(&mut seeds, &plan)?;
         cases += flags(&mut seeds, &plan)?;
+        cases += counts(&mut seeds, &plan)?;
         cases += made_orders(&plan)?;
     }
     Ok(cases)

@@ -61,7 +61,7 @@ extern "C" {
         places_length: usize,
         answer: *mut u64,
     ) -> u32;
-    fn overlay_fresh_cursor(
+    fn overlay_fresh_ticket(
         k: u32,
         sizes: *const u32,
         margins: *const u32,
@@ -69,7 +69,9 @@ extern "C" {
         cells_length: usize,
         order: *const u32,
         order_length: usize,
-        cursor: *mut u32,
+        ticket: *mut u32,
+        counter: *mut u64,
+        counter_length: usize,
     ) -> u32;
     fn overlay_fetch_page(
         k: u32,
@@ -79,7 +81,9 @@ extern "C" {
         cells_length: usize,
         order: *const u32,
         order_length: usize,
-        cursor: *mut u32,
+        ticket: *mut u32,
+        counter: *mut u64,
+        counter_length: usize,
         budget: u32,
         table: *mut u32,
         table_length: usize,
@@ -151,7 +155,7 @@ extern "C" {
 }
 
 /// A ticket's cells.
-pub type Cells = [u32; 10];
+pub type Cells = [u32; 12];
 
 /// What answers are filled with before a call, so that a cell left unwritten shows.
 const UNWRITTEN: u64 = 0xA5A5_A5A5_A5A5_A5A5;
@@ -160,14 +164,16 @@ const UNWRITTEN: u64 = 0xA5A5_A5A5_A5A5_A5A5;
 pub fn cells_of(ticket: &Ticket) -> Cells {
     let [a, b, c, d, e] = ticket.chosen;
     let ended = u32::from(ticket.ended);
-    [ended, ticket.layer, ticket.place, ticket.filled, a, b, c, d, e, ticket.next]
+    let (low, high) = (ticket.count as u32, (ticket.count >> 32) as u32);
+    [ended, ticket.layer, ticket.place, ticket.filled, a, b, c, d, e, ticket.next, low, high]
 }
 
 /// The ticket in cells.
 fn ticket_in(cells: &Cells) -> Ticket {
-    let [ended, layer, place, filled, a, b, c, d, e, next] = *cells;
+    let [ended, layer, place, filled, a, b, c, d, e, next, low, high] = *cells;
     assert!(ended <= 1, "the flag of a ticket is {ended}");
-    Ticket { ended: ended == 1, layer, place, filled, chosen: [a, b, c, d, e], next }
+    let count = u64::from(high) << 32 | u64::from(low);
+    Ticket { ended: ended == 1, layer, place, filled, chosen: [a, b, c, d, e], next, count }
 }
 
 /// A number that fits 32 bits.
@@ -233,12 +239,12 @@ pub fn nearest(shape: &Shape, cells: &[i32], around: [i32; 4]) -> NearestTold {
     NearestTold { number, layers }
 }
 
-/// The page call on a ticket's cells: the number and the answer.
+/// The page call on a ticket's cells and a run record: the number and the answer.
 pub fn fetch_page(
     shape: &Shape,
     cells: &[i32],
     order: &[u32],
-    cursor: &mut Cells,
+    (ticket, record): (&mut Cells, &mut [u64]),
     budget: u32,
     table: &mut [u32],
 ) -> (u32, [u64; 4]) {
@@ -253,7 +259,9 @@ pub fn fetch_page(
             cells.len(),
             order.as_ptr(),
             order.len(),
-            cursor.as_mut_ptr(),
+            ticket.as_mut_ptr(),
+            record.as_mut_ptr(),
+            record.len(),
             budget,
             table.as_mut_ptr(),
             table.len(),
@@ -336,11 +344,11 @@ impl Overlay for Library {
         PairTold { number, lower: small(answer[0]), higher: small(answer[1]) }
     }
 
-    fn fresh(&self, shape: &Shape, cells: &[i32], order: &[u32]) -> (u32, Ticket) {
-        let mut cursor = [UNWRITTEN as u32; 10];
-        // SAFETY: every pointer comes from a reference, with its length; the one written to is exclusive.
+    fn fresh(&self, shape: &Shape, cells: &[i32], order: &[u32], record: &mut [u64]) -> (u32, Ticket) {
+        let mut ticket = [UNWRITTEN as u32; 12];
+        // SAFETY: every pointer comes from a reference, with its length; those written to are exclusive.
         let number = unsafe {
-            overlay_fresh_cursor(
+            overlay_fresh_ticket(
                 shape.k,
                 shape.sizes.as_ptr(),
                 shape.margins.as_ptr(),
@@ -348,10 +356,12 @@ impl Overlay for Library {
                 cells.len(),
                 order.as_ptr(),
                 order.len(),
-                cursor.as_mut_ptr(),
+                ticket.as_mut_ptr(),
+                record.as_mut_ptr(),
+                record.len(),
             )
         };
-        (number, ticket_in(&cursor))
+        (number, ticket_in(&ticket))
     }
 
     fn page(
@@ -360,18 +370,19 @@ impl Overlay for Library {
         cells: &[i32],
         order: &[u32],
         ticket: &Ticket,
+        record: &mut [u64],
         budget: u32,
         table: &mut [u32],
     ) -> Page {
-        let mut cursor = cells_of(ticket);
-        let (number, answer) = fetch_page(shape, cells, order, &mut cursor, budget, table);
+        let mut given = cells_of(ticket);
+        let (number, answer) = fetch_page(shape, cells, order, (&mut given, record), budget, table);
         let [code, rows, trials, area] = answer;
         Page {
             stop: stop_of(number, code),
             rows: small(rows),
             trials: small(trials),
             area,
-            ticket: ticket_in(&cursor),
+            ticket: ticket_in(&given),
         }
     }
 

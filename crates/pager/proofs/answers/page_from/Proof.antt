@@ -2,6 +2,7 @@
 use borrow.Author.Needs.{needs}
 use native.Mathlib.Nat.{le-refl}
 use native.Mathlib.Omega.{arith}
+use Prim.Native.Nat.{_≤_}
 use Rattle.slots.proofs.Frames.{more}
 use Rattle.pager.proofs.Answering.{room-fits, rows-few, done-few, page-answered}
 use Rattle.pager.proofs.answers.page_from.Statement.{statement}
@@ -15,29 +16,35 @@ go-requires c κs =
     let s : tie.Start = search needs in
     let q : tie.After-capacity-of = search needs in
     let r = room-fits (s .pre .0) (s .args .table .now) _ _ (q .capacity-of .ensures) (le-refl _) in
-    (s .pre, (λ t. r .0, r .1))
+    ((s .pre .0, s .pre .1, s .pre .2), (λ t. r .0, r .1))
+
+-- no more probes than the budget are done
+few : (g : tie.After-go) → let s = g .before .before .before .before .before in g .go .result .done ≤ s .args .budget
+few g =
+    let q = g .before .before in
+    let s = q .before .before .before in
+    let a = s .args in
+    done-few (a .frame) (a .cells .now) (a .order .now) (s .pre .0) (s .pre .1) (a .start) (s .pre .2) (a .budget) (a .table .now) _ (q .capacity-of .ensures) _ _ (g .go .ensures)
+
+cursor-of-requires : tie.Need-cursor-of-requires
+cursor-of-requires c κs = search needs
 
 stop-at-requires : tie.Need-stop-at-requires
 stop-at-requires c κs = search needs
 
-cast-t15 : tie.Need-cast-t15
-cast-t15 c =
+cast-t17 : tie.Need-cast-t17
+cast-t17 c =
     let s : tie.Start = search needs in
     let q : tie.After-capacity-of = search needs in
     let g : tie.After-go = search needs in
     let a = s .args in
     omega (arith, rows-few (a .frame) (a .cells .now) (a .order .now) (s .pre .0) (s .pre .1) (a .start) (s .pre .2) (a .budget) (a .table .now) _ (q .capacity-of .ensures) _ _ (g .go .ensures))
 
-cast-t16 : tie.Need-cast-t16
-cast-t16 c =
-    let s : tie.Start = search needs in
-    let q : tie.After-capacity-of = search needs in
-    let g : tie.After-go = search needs in
-    let a = s .args in
-    omega (arith, s .fits .budget, done-few (a .frame) (a .cells .now) (a .order .now) (s .pre .0) (s .pre .1) (a .start) (s .pre .2) (a .budget) (a .table .now) _ (q .capacity-of .ensures) _ _ (g .go .ensures))
+cast-t18 : tie.Need-cast-t18
+cast-t18 c = let s : tie.Start = search needs in let g : tie.After-go = search needs in omega (arith, s .fits .budget, few g)
 
-cursor-of-requires : tie.Need-cursor-of-requires
-cursor-of-requires c κs = search needs
+add-t20 : tie.Need-add-t20
+add-t20 c = let s : tie.Start = search needs in let g : tie.After-go = search needs in omega (arith, s .fits .budget, s .pre .3, few g)
 
 same-length : tie.Need-same-length
 same-length c = search needs
@@ -48,8 +55,9 @@ returns c =
     let q = g .before .before in
     let s = q .before .before .before in
     let t : tie.After-stop-at = search needs in
+    let u : tie.After-cursor-of = search needs in
     let a = s .args in
-    page-answered (a .frame) (a .cells .now) (a .order .now) (s .pre .0) (s .pre .1) (a .start) (s .pre .2) (a .budget) (a .table .now) _ (q .capacity-of .ensures) _ _ (g .go .ensures) _ _ (t .stop-at .ensures) (c .cursor-of .ensures)
+    page-answered (a .frame) (a .cells .now) (a .order .now) (s .pre .0) (s .pre .1) (a .start) (s .pre .2) (a .budget) (a .table .now) _ (q .capacity-of .ensures) _ _ (g .go .ensures) (a .count) _ _ (t .stop-at .ensures) (u .cursor-of .ensures)
 
 pub page-from-spec : {M : Type 1} → statement M
 page-from-spec =
@@ -57,9 +65,10 @@ page-from-spec =
     (tie.spec
     capacity-of-requires
     go-requires
-    stop-at-requires
-    cast-t15
-    cast-t16
     cursor-of-requires
+    stop-at-requires
+    cast-t17
+    cast-t18
+    add-t20
     same-length
     returns)

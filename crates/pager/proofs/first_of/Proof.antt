@@ -1,11 +1,11 @@
--- `pager::fresh_cursor`: a refusal, or the cursor of the whole walk.
+-- `pager::first_of`: a refusal, or the cursor of the whole walk.
 use borrow.Author.Needs.{needs}
 use lib.ListN.{length, take}
 use Rattle.plan.specs.Plan.{Typed}
 use Rattle.plan.proofs.Growing.{part-long}
-use Rattle.pager.proofs.Calls.{Admitted, admitted, fresh-refused, fresh-made}
-use Rattle.pager.proofs.fresh_cursor.Statement.{statement}
-use Rattle.pager.proofs.fresh_cursor.Tie as tie
+use Rattle.pager.proofs.Calls.{Admitted, admitted, first-refused, first-made}
+use Rattle.pager.proofs.first_of.Statement.{statement}
+use Rattle.pager.proofs.first_of.Tie as tie
 
 typed : (c : tie.Start) → Typed (c .args .shape)
 typed c = record { sizes = search needs; margins = search needs }
@@ -28,7 +28,7 @@ returns c =
     let s : tie.Start = search needs in
     let k : tie.After-open-plan = search needs in
     let a = s .args in
-    rw (c .ended-cursor .ensures) (fresh-refused (a .shape) (a .cells .now) (a .order .now) _ (k .open-plan .ensures .number) (c .before .if1 .taken))
+    rw (c .ended-cursor .ensures) (first-refused (a .shape) (a .cells .now) (a .order .now) _ (k .open-plan .ensures .number) (c .before .if1 .taken))
 
 frame-of-requires : tie.Need-frame-of-requires
 frame-of-requires c κs = search needs
@@ -48,10 +48,10 @@ first-cursor-requires c κs = let k : tie.After-frame-of = search needs in let o
 returns-2 : tie.Need-returns-2
 returns-2 c =
     let k : tie.After-frame-of = search needs in
-    fresh-made _ _ _ _ (k .frame-of .result) (opening k) _ (c .first-cursor .ensures)
+    first-made _ _ _ _ (k .frame-of .result) (opening k) _ (c .first-cursor .ensures)
 
-pub fresh-cursor-spec : {M : Type 1} → statement M
-fresh-cursor-spec =
+pub first-of-spec : {M : Type 1} → statement M
+first-of-spec =
     tie.close
     (tie.spec
     slice-aggregate-open-plan
