@@ -1,4 +1,5 @@
-/* Reads a plan text on standard input, fetches its table page by page, and prints what the report program prints. Both C11 and C++17.
+/* Reads a plan text on standard input, fetches its table page by page, has its ground counted once, and prints what the report program prints. Both C11
+ * and C++17.
  *
  *     gcc -std=c11 -Iinclude examples/page.c target/staticlib/libcapi.a -o target/page
  *     target/page < examples/forecourt.plan */
@@ -31,10 +32,10 @@ struct row {
     uint64_t answer[OVERLAY_ROW_CELLS];
 };
 
-/* What all pages brought. */
+/* What all pages brought, and the ground of all rows counted once. */
 struct table {
     struct row rows[MOST_ROWS];
-    uint64_t count, probes, area;
+    uint64_t count, probes, ground;
 };
 
 /* Reads a text and makes the order of its plan. */
@@ -88,12 +89,23 @@ static uint32_t fetch_table(const struct plan *plan, struct table *table)
         if (cause != OVERLAY_CAUSE_NONE)
             return cause;
         table->probes += answer[OVERLAY_PAGE_PROBES];
-        table->area += answer[OVERLAY_PAGE_AREA];
     } while (answer[OVERLAY_PAGE_STOP] != OVERLAY_ENDED);
     return OVERLAY_CAUSE_NONE;
 }
 
-/* The lines of the report. Square metres are rounded once, from the exact sum: half a hundredth up. */
+/* Takes the ground from a whole run: a page has the sum of its rows' areas alone, and ground may lie under rows of several pages. */
+static uint32_t count_ground(const struct plan *plan, struct table *table)
+{
+    static uint32_t rows[TABLE_CELLS];
+    static int32_t work[TABLE_CELLS];
+    uint64_t answer[OVERLAY_RUN_CELLS];
+    uint32_t cause = overlay_run_all(plan->k, plan->sizes, plan->margins, plan->cells, plan->cells_length,
+                                     plan->order, plan->order_length, rows, TABLE_CELLS, work, TABLE_CELLS, answer);
+    table->ground = answer[OVERLAY_RUN_GROUND];
+    return cause;
+}
+
+/* The lines of the report. Square metres are rounded once, from the exact ground: half a hundredth up. */
 static void print_table(uint32_t k, const struct table *table)
 {
     for (uint64_t i = 0; i < table->count; i++) {
@@ -103,7 +115,7 @@ static void print_table(uint32_t k, const struct table *table)
             printf("\t%" PRIu32, row->places[layer]);
         printf("\t%" PRIu64 "\n", row->answer[OVERLAY_ROW_AREA]);
     }
-    uint64_t hundredths = (table->area + 5000) / 10000;
+    uint64_t hundredths = (table->ground + 5000) / 10000;
     printf("TOTAL\t%" PRIu64 "\t%" PRIu64 "\t%" PRIu64 ".%02" PRIu64 "\n", table->count, table->probes,
            hundredths / 100, hundredths % 100);
 }
@@ -123,6 +135,8 @@ int main(void)
         cause = read_plan(text, length, &plan);
     if (cause == OVERLAY_CAUSE_NONE)
         cause = fetch_table(&plan, &table);
+    if (cause == OVERLAY_CAUSE_NONE)
+        cause = count_ground(&plan, &table);
     /* Nothing is printed before it is known that the whole table fits. */
     if (cause == OVERLAY_CAUSE_NONE)
         print_table(plan.k, &table);

@@ -10,6 +10,8 @@
  * A run is a fresh ticket and the pages from it on. Each ticket counts the probes that its run has done, and the run's record, a counter of one cell
  * that the caller keeps beside the plan, holds the count of the newest. So a page call tells an earlier ticket from the newest, and refuses it by 18.
  *
+ * A whole run takes a work buffer. It does not matter what its cells hold before, and what they hold after an acceptance is free.
+ *
  * No pointer is null, also where its length is 0. A buffer that a call writes to overlaps no other that it is handed.
  *
  * No call allocates or keeps anything: any number of calls may run at once, each with its own buffers to write to; those that are only read may be
@@ -21,7 +23,7 @@
 #include <stdint.h>
 
 /* The version of this interface: another one where a declaration, a number or the order of cells is another, or one comes. */
-#define OVERLAY_VERSION 7
+#define OVERLAY_VERSION 8
 
 /* The largest plan: layers, rectangles, cells, a layer's margin in millimetres, and the bytes of the longest text, which is proved. So much is enough
  * for every plan. */
@@ -34,7 +36,7 @@ enum {
 };
 
 /* The stack that is enough for every call (measured). */
-enum { OVERLAY_STACK_BYTES = 131072 };
+enum { OVERLAY_STACK_BYTES = 196608 };
 
 /* Causes. Each call checks those that it tells in the order in which it names them; 13 is the report program's alone, and there the first. */
 enum overlay_cause {
@@ -57,6 +59,7 @@ enum overlay_cause {
     OVERLAY_CAUSE_SEGMENTS = 16,    /* bottom and top differ in layer k - 1, or left and right in layer k, or one of the two has a margin above 0 */
     OVERLAY_CAUSE_MARGINS = 17,     /* a margin is above 50,000, or not 0 past k; told behind 2. Class 17 is OVERLAY_CLASS_NO_ROW */
     OVERLAY_CAUSE_STALE = 18,       /* the run record is not one cell; for a page, or holds 2^57 or more or not the ticket's count */
+    OVERLAY_CAUSE_WORK = 19,        /* the work buffer is shorter than two cells for each row */
     OVERLAY_CAUSE_RECORD = 20,      /* the corners are not four a record, or one is not finite, out of order or beyond a million when covered */
     OVERLAY_CAUSE_STRIP = 21,       /* a strip's stop is not finite, its lower one is above its upper one, or its kind is above 3 */
     OVERLAY_CAUSE_PLACES = 23       /* there are not k places, or a place is not in its layer */
@@ -87,8 +90,14 @@ enum {
 /* Why a page stopped: all rows are handed out, the table holds no more, the budget is used up; 0 after a refusal. */
 enum overlay_stop { OVERLAY_REFUSED = 0, OVERLAY_ENDED = 1, OVERLAY_FULL = 2, OVERLAY_SPENT = 3 };
 
-/* The cells of a whole run's answer, as of a page's. */
-enum { OVERLAY_RUN_ROWS = 0, OVERLAY_RUN_PROBES = 1, OVERLAY_RUN_AREA = 2, OVERLAY_RUN_CELLS = 3 };
+/* The cells of a whole run's answer. */
+enum {
+    OVERLAY_RUN_ROWS = 0,   /* how many rows there are */
+    OVERLAY_RUN_PROBES = 1, /* how many probes the walk has */
+    OVERLAY_RUN_AREA = 2,   /* the sum of the rows' areas in square millimetres, as of a page's: ground under two rows counts twice */
+    OVERLAY_RUN_GROUND = 3, /* the ground of all rows counted once, in square millimetres */
+    OVERLAY_RUN_CELLS = 4
+};
 
 /* The cells of a row's answer: the guard's layer, from 1, and the area in square millimetres. */
 enum { OVERLAY_ROW_LAYER = 0, OVERLAY_ROW_AREA = 1, OVERLAY_ROW_CELLS = 2 };
@@ -172,20 +181,22 @@ uint32_t overlay_fetch_page(uint32_t k, const uint32_t sizes[6], const uint32_t 
                             uint64_t *counter, size_t counter_length, uint32_t budget, uint32_t *table,
                             size_t table_length, uint64_t answer[4]);
 
-/* All rows of a plan's table. Cells of the table behind the rows keep what they held. Tells 1, 2, 17, 3, 4, 5 and 7. */
+/* All rows of a plan's table. Cells of the table behind the rows keep what they held. The work buffer has two cells or more for each row: as many cells as
+ * the table are always enough. Tells 1, 2, 17, 3, 4, 5, 7 and 19. */
 uint32_t overlay_run_all(uint32_t k, const uint32_t sizes[6], const uint32_t margins[6], const int32_t *cells,
                          size_t cells_length, const uint32_t *order, size_t order_length, uint32_t *table,
-                         size_t table_length, uint64_t answer[3]);
+                         size_t table_length, int32_t *work, size_t work_length, uint64_t answer[4]);
 
 /* Leaves in `told` the class of the row that places name, for a plan whose layer k - 1 holds horizontal segments and whose layer k holds vertical ones; 0 after a refusal.
  * Tells 1, 2, 17, 3, 4, 15 and 16. */
 uint32_t overlay_row_class(uint32_t k, const uint32_t sizes[6], const uint32_t margins[6], const int32_t *cells,
                            size_t cells_length, const uint32_t *places, size_t places_length, uint32_t *told);
 
-/* All rows of such a plan's table, as overlay_run_all, and how many fall in each class, 0 to 16. Tells 1, 2, 17, 3, 4, 15, 16, 5 and 7. */
+/* All rows of such a plan's table, as overlay_run_all, and how many fall in each class, 0 to 16. Tells 1, 2, 17, 3, 4, 15, 16, 5, 7 and 19. */
 uint32_t overlay_crossing_report(uint32_t k, const uint32_t sizes[6], const uint32_t margins[6], const int32_t *cells,
                                  size_t cells_length, const uint32_t *order, size_t order_length, uint32_t *table,
-                                 size_t table_length, uint64_t answer[3], uint32_t counts[17]);
+                                 size_t table_length, int32_t *work, size_t work_length, uint64_t answer[4],
+                                 uint32_t counts[17]);
 
 /* Reads a plan text. k, the sizes and the margins are left in theirs, 0 after a refusal; cells behind the plan's keep what they held. Tells 9 to 11. */
 uint32_t overlay_read_text(const uint8_t *text, size_t text_length, int32_t *cells, size_t cells_length,

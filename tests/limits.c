@@ -12,6 +12,7 @@ static uint32_t k = OVERLAY_MOST_LAYERS, sizes[6] = {512, 512, 512, 512, 512, 51
 static uint32_t margins[6] = {400, 300, 200, 100, 0, 0};
 static int32_t cells[OVERLAY_MOST_CELLS];
 static uint32_t order[OVERLAY_MOST_RECTS], table[OVERLAY_MOST_RECTS], ticket[OVERLAY_TICKET_CELLS];
+static int32_t work[OVERLAY_MOST_RECTS];
 static uint64_t record;
 static uint8_t text[OVERLAY_MOST_TEXT];
 static size_t text_length;
@@ -61,7 +62,7 @@ static uint32_t run_all(void)
 {
     uint64_t answer[OVERLAY_RUN_CELLS];
     return overlay_run_all(k, sizes, margins, cells, OVERLAY_MOST_CELLS, order, OVERLAY_MOST_RECTS, table,
-                           OVERLAY_MOST_RECTS, answer);
+                           OVERLAY_MOST_RECTS, work, OVERLAY_MOST_RECTS, answer);
 }
 static uint32_t row_class(void)
 {
@@ -73,7 +74,7 @@ static uint32_t crossing_report(void)
     uint64_t answer[OVERLAY_RUN_CELLS];
     uint32_t counts[OVERLAY_CLASS_COUNTS];
     return overlay_crossing_report(k, sizes, margins, cells, OVERLAY_MOST_CELLS, order, OVERLAY_MOST_RECTS, table,
-                                   OVERLAY_MOST_RECTS, answer, counts);
+                                   OVERLAY_MOST_RECTS, work, OVERLAY_MOST_RECTS, answer, counts);
 }
 static uint32_t write_text(void)
 {

@@ -6,9 +6,10 @@ mod ffi;
 mod hand;
 
 use ffi::Library;
+use hand::Count;
 use overlay_tests::call::Plan;
 use overlay_tests::overlay::{Overlay, Run, Stop, Ticket};
-use overlay_tests::seeds::{grown_by, Seeds};
+use overlay_tests::seeds::{grown_by, towers, Seeds};
 use std::hint::black_box;
 use std::time::Instant;
 
@@ -67,8 +68,10 @@ fn agree(plan: &Plan) -> (Vec<u32>, Run, Vec<u8>) {
     assert_eq!(ffi::order_cause(shape, cells, &order), hand::cause(shape, cells, &order));
 
     let (mut table, mut second) = (vec![0; 6_000_000], vec![0; 6_000_000]);
-    let run = Library.run(shape, cells, &order, &mut table);
-    assert_eq!(run, hand::run(shape, cells, &order, &mut second));
+    let (mut work, mut other) = (vec![0; 2_000_000], vec![0; 2_000_000]);
+    let run = Library.run(shape, cells, &order, &mut table, &mut work);
+    assert_eq!(run, hand::run(shape, cells, &order, &mut second, &mut other));
+    assert_eq!(run, hand::run_counting(Count::Tree, shape, cells, &order, &mut second, &mut other));
     assert!(run.number == 0 && table == second);
     let (mut record, mut beside) = ([7], [0]);
     let fresh = Library.fresh(shape, cells, &order, &mut record).1;
@@ -95,11 +98,12 @@ fn bench(name: &str, plan: &Plan) {
     let (mut order, run, text) = agree(plan);
     let mut other = vec![0; n];
     let (mut table, mut second) = (vec![0; 6_000_000], vec![0; 6_000_000]);
+    let (mut work, mut lent) = (vec![0; 2_000_000], vec![0; 2_000_000]);
     let name = format!("{name}, {} rows", run.rows);
 
     let (ours, rust) = both(
-        || { black_box(Library.run(shape, cells, black_box(&order), &mut table)); },
-        || { black_box(hand::run(shape, cells, black_box(&order), &mut second)); },
+        || { black_box(Library.run(shape, cells, black_box(&order), &mut table, &mut work)); },
+        || { black_box(hand::run(shape, cells, black_box(&order), &mut second, &mut lent)); },
     );
     tell(&name, "run", ours, rust);
     println!("{:<22} {:<10} {:>12.2} {:>12.2}", "", "ns a trial", ours * 500.0 / run.trials as f64, rust * 500.0 / run.trials as f64);
@@ -146,6 +150,34 @@ fn bench(name: &str, plan: &Plan) {
     tell(&name, "read", ours, rust);
 }
 
+/// Times a whole run whose ground is counted: the library; its walk alone, which is two passes of the page call; and hand-written Rust that counts the ground
+/// by reaches, by a tree and not at all.
+fn bench_ground(name: &str, plan: &Plan) {
+    let (shape, cells) = (&plan.shape, &plan.cells[..]);
+    let (order, run, _) = agree(plan);
+    let (mut table, mut second) = (vec![0; 6_000_000], vec![0; 6_000_000]);
+    let (mut work, mut lent) = (vec![0; 2_000_000], vec![0; 2_000_000]);
+    let fresh = Library.fresh(shape, cells, &order, &mut [0]).1;
+    let mut counting = |count| {
+        let call = || { black_box(hand::run_counting(count, shape, cells, black_box(&order), &mut second, &mut lent)); };
+        best(call)
+    };
+    let (reaches, tree, not) = (counting(Count::Reaches), counting(Count::Tree), counting(Count::Not));
+    let ours = best(|| { black_box(Library.run(shape, cells, black_box(&order), &mut table, &mut work)); });
+    let walk = 2.0 * best(|| { black_box(Library.page(shape, cells, &order, &fresh, &mut [0], u32::MAX, &mut table)); });
+    println!(
+        "{:<32} {ours:>10.0} {walk:>10.0} {reaches:>10.0} {tree:>10.0} {not:>10.0} {:>7.2}",
+        format!("{name}, {} rows", run.rows),
+        ours / reaches
+    );
+}
+
+/// The shortest round of a call.
+fn best(mut call: impl FnMut()) -> f64 {
+    let calls = calls_of(&mut call);
+    (0..ROUNDS).fold(f64::MAX, |best, _| best.min(round(&mut call, calls)))
+}
+
 fn main() {
     println!("{:<22} {:<10} {:>12} {:>12} {:>7}", "plan", "call", "ours, us", "Rust, us", "ratio");
     let plans: [(&str, usize, u32, i32); 8] = [
@@ -160,10 +192,28 @@ fn main() {
     ];
     let mut seeds = Seeds(2026);
     for (name, k, n, side) in plans {
-        let mut plan = seeds.sparse(&vec![n; k], side);
-        for z in plan.cells.iter_mut() {
-            *z = (*z).min(1_000_000);
-        }
-        bench(name, &plan);
+        bench(name, &seeds.sparse(&vec![n; k], side));
     }
+
+    println!();
+    println!(
+        "{:<32} {:>10} {:>10} {:>10} {:>10} {:>10} {:>7}",
+        "run with its ground, us", "ours", "walk alone", "Rust", "with tree", "without", "ratio"
+    );
+    bench_ground("k 6, 512, towers", &towers(6, 512));
+    // All rectangles hold one point, so that all combinations are rows.
+    bench_ground("k 2, 512, about a point", &seeds.plan_of(&[512, 512], 9));
+    for (name, k, n, side) in [
+        ("k 2, 512, tiles", 2, 512, 0),
+        ("k 3, 512, medium", 3, 512, 200_000),
+        ("k 6, 64, medium", 6, 64, 400_000),
+        ("k 3, 64, lifelike", 3, 64, 250_000),
+    ] {
+        let plan = if side == 0 { seeds.plan_of(&vec![n; k], 6) } else { seeds.sparse(&vec![n; k], side) };
+        bench_ground(name, &plan);
+    }
+    let mut cells = vec![0; 12_288];
+    let shape = Library.read(include_bytes!("../../examples/forecourt.plan"), &mut cells).shape;
+    cells.truncate(4 * shape.sizes.iter().sum::<u32>() as usize);
+    bench_ground("examples/forecourt.plan", &Plan { shape, cells });
 }

@@ -19,7 +19,7 @@ pub enum Call {
     Pair { plan: Plan, places: Vec<u32> },
     Fresh { plan: Plan, order: Vec<u32>, record: Vec<u64> },
     Page { plan: Plan, order: Vec<u32>, ticket: Ticket, record: Vec<u64>, budget: u32, table: Vec<u32> },
-    Run { plan: Plan, order: Vec<u32>, table: Vec<u32> },
+    Run { plan: Plan, order: Vec<u32>, table: Vec<u32>, work: Vec<i32> },
     Read { text: Vec<u8>, cells: Vec<i32> },
     Write { plan: Plan, text: Vec<u8> },
 }
@@ -76,15 +76,22 @@ fn put(call: &mut Call, to: &dyn Overlay) -> Answer {
         Call::Page { plan, order, ticket, record, budget, table } => {
             Answer::Page(to.page(&plan.shape, &plan.cells, order, ticket, record, *budget, table))
         }
-        Call::Run { plan, order, table } => Answer::Run(to.run(&plan.shape, &plan.cells, order, table)),
+        Call::Run { plan, order, table, work } => {
+            Answer::Run(to.run(&plan.shape, &plan.cells, order, table, work))
+        }
         Call::Read { text, cells } => Answer::Read(to.read(text, cells)),
         Call::Write { plan, text } => Answer::Write(to.write(&plan.shape, &plan.cells, text)),
     }
 }
 
-/// Puts a call to an overlay; a panic is an answer too, and never an equal one.
+/// Puts a call to an overlay; a panic is an answer too, and never an equal one. After an acceptance the work buffer is cleared: its "contents afterwards are
+/// free".
 pub fn ask(call: &mut Call, to: &dyn Overlay) -> Answer {
-    catch_unwind(AssertUnwindSafe(|| put(call, to))).unwrap_or(Answer::Panicked)
+    let answer = catch_unwind(AssertUnwindSafe(|| put(call, to))).unwrap_or(Answer::Panicked);
+    if let (Call::Run { work, .. }, Answer::Run(Run { number: 0, .. })) = (call, answer) {
+        work.fill(0);
+    }
+    answer
 }
 
 /// The two answers and all lent buffers afterwards are the same.
@@ -131,8 +138,13 @@ fn show_call(text: &mut String, call: &Call) -> std::fmt::Result {
             )?;
             show_plan(text, plan)
         }
-        Call::Run { plan, order, table } => {
-            writeln!(text, "run, table of {} cells\norder {order:?}", table.len())?;
+        Call::Run { plan, order, table, work } => {
+            writeln!(
+                text,
+                "run, table of {} cells, work buffer of {}\norder {order:?}",
+                table.len(),
+                work.len()
+            )?;
             show_plan(text, plan)
         }
         Call::Read { text: read, cells } => {
@@ -171,9 +183,12 @@ fn lent(call: &Call) -> Vec<(&'static str, Vec<i128>)> {
             ("record", wide(record)),
             ("table", plain(table)),
         ],
-        Call::Run { plan, order, table } => {
-            vec![("plan", signed(&plan.cells)), ("order", plain(order)), ("table", plain(table))]
-        }
+        Call::Run { plan, order, table, work } => vec![
+            ("plan", signed(&plan.cells)),
+            ("order", plain(order)),
+            ("table", plain(table)),
+            ("work", signed(work)),
+        ],
         Call::Read { text, cells } => vec![("text", small(text)), ("cells", signed(cells))],
         Call::Write { plan, text } => vec![("plan", signed(&plan.cells)), ("text", small(text))],
     }

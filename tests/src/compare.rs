@@ -1,12 +1,12 @@
 //! Puts thousands of seeded calls to two overlays and compares answers and all lent buffers.
 
 use crate::call::{ask, bytes, cells_i32, cells_u32, cells_u64, same, show, Answer, Call, Plan};
-use crate::known::{known_calls, known_margins, known_tickets};
+use crate::known::{known_calls, known_margins, known_runs, known_tickets};
 use crate::overlay::{Overlay, Page, Stop, Ticket};
 use crate::reference::{count_rows, each_tuple, join, layers_of, pairs, TOO_MANY};
 use crate::seeds::{
-    equal_plan, grown_by, length, order, other_orders, plan_d, plan_from, shape_of, spell, text, tickets,
-    Seeds, DAMAGES, FIELDS, STYLES,
+    covered, equal_plan, grown_by, length, order, other_orders, plan_d, plan_from, shape_of, spell, text,
+    tickets, towers, Seeds, DAMAGES, FIELDS, STYLES,
 };
 use std::fmt;
 
@@ -179,10 +179,21 @@ impl Bench<'_> {
         }
     }
 
-    /// One whole run.
+    /// One whole run with a work buffer of as many cells as the table, which is always enough.
     fn ask_run(&mut self, kind: &'static str, plan: &Plan, order: &[u32], table: usize) -> Outcome {
-        let call = Call::Run { plan: plan.clone(), order: order.to_vec(), table: cells_u32(table) };
-        self.ask(kind, call).map(drop)
+        self.ask_run_with(kind, plan, order, (table, table))
+    }
+
+    /// One whole run with a table and a work buffer of so many cells.
+    fn ask_run_with(
+        &mut self,
+        kind: &'static str,
+        plan: &Plan,
+        order: &[u32],
+        (table, work): (usize, usize),
+    ) -> Outcome {
+        let (table, work) = (cells_u32(table), cells_i32(work));
+        self.ask(kind, Call::Run { plan: plan.clone(), order: order.to_vec(), table, work }).map(drop)
     }
 
     /// One reading.
@@ -262,7 +273,8 @@ impl Bench<'_> {
             let limits = self.limits(plan, 20);
             let ticket = if self.seeds.once_in(3) { self.seeds.any_ticket() } else { first };
             self.ask_page("orders", plan, &other, &ticket, limits)?;
-            self.ask_run("orders", plan, &other, limits.1)?;
+            let work = if self.seeds.once_in(3) { 0 } else { limits.1 };
+            self.ask_run_with("orders", plan, &other, (limits.1, work))?;
         }
         Ok(())
     }
@@ -474,17 +486,24 @@ impl Bench<'_> {
         self.ask_page("tickets", plan, &order(plan), ticket, limits).map(drop)
     }
 
-    /// Tables that fit exactly, are a cell or a row short, hold some cells more, or are large.
+    /// Tables that fit exactly, are a cell or a row short, hold some cells more, or are large; and with them work buffers of two cells a row, fewer and
+    /// more.
     fn whole_runs(&mut self, plan: &Plan) -> Outcome {
-        let k = plan.shape.k as usize;
+        let (kind, k, good) = ("whole runs", plan.shape.k as usize, order(plan));
         let rows = count_rows(&layers_of(&plan.shape, &plan.cells)) as usize;
         let exact = rows * k;
         let short = exact.saturating_sub(1);
         let row_short = exact.saturating_sub(k);
         for table in [exact, short, row_short, exact + 1, exact + k - 1, exact + k, 0, k, exact + 1000] {
-            self.ask_run("whole runs", plan, &order(plan), table)?;
+            self.ask_run(kind, plan, &good, table)?;
         }
-        Ok(())
+        let two = 2 * rows;
+        for work in [two, two.saturating_sub(1), two + 1, rows, 0, 1, two + 1000] {
+            let table = self.seeds.pick(&[exact, exact, exact + 1, exact + 1000]);
+            self.ask_run_with(kind, plan, &good, (table, work))?;
+        }
+        self.ask_run_with(kind, plan, &good, (short, two.saturating_sub(1)))?;
+        self.ask_run_with(kind, plan, &good, (0, 0))
     }
 
     /// Text buffers of the exact length, shorter and longer ones.
@@ -585,7 +604,8 @@ impl Bench<'_> {
         self.ask_start(kind, plan, &order, &mut record)?;
         let (budget, mut record) = (self.seeds.budget(20), self.record(&ticket));
         self.ask_next(kind, (plan, &order), &ticket, &mut record, (budget, room))?;
-        self.ask_run(kind, plan, &order, room)?;
+        let work = if self.seeds.once_in(2) { 0 } else { room };
+        self.ask_run_with(kind, plan, &order, (room, work))?;
         self.ask_write(kind, plan, room)
     }
 }
@@ -806,7 +826,8 @@ impl Bench<'_> {
     /// The calls whose answers the paper gives, put to both; a difference shows what is due as the right one.
     fn known(&mut self) -> Outcome {
         let kind = "known answers";
-        for known in known_calls().into_iter().chain(known_margins()).chain(known_tickets()) {
+        let known = [known_calls(), known_margins(), known_tickets(), known_runs()];
+        for known in known.into_iter().flatten() {
             for overlay in [self.left, self.right] {
                 let mut lent = known.call.clone();
                 let told = ask(&mut lent, overlay);
@@ -853,6 +874,8 @@ impl Bench<'_> {
             ),
             17 => self.ticket_box(&grown_by(halves(), &[1])),
             18 => self.ticket_box(&grown_by(halves(), &[0, 1, 1, 0])),
+            19 => self.ground_box(),
+            20 => self.ground_large(),
             _ => Ok(()),
         }
     }
@@ -1232,6 +1255,73 @@ impl Bench<'_> {
     }
 }
 
+// ---------------------------------------------------------------- ground counted once (02, Q-6)
+
+impl Bench<'_> {
+    /// Whole runs on every pair of small rectangles, and on three and four at random: apart, touching, over each other, one in the other, as a cross, as a
+    /// segment or a point.
+    fn ground_box(&mut self) -> Outcome {
+        let kind = "ground";
+        let sides = [(0, 0), (0, 1), (0, 2), (1, 2), (2, 3), (0, 3), (1, 3)];
+        let rects: Vec<[i32; 4]> =
+            sides.iter().flat_map(|x| sides.iter().map(move |y| [x.0, y.0, x.1, y.1])).collect();
+        for &a in &rects {
+            for &b in &rects {
+                let plan = covered(&[a, b], 2);
+                self.ask_run(kind, &plan, &order(&plan), 4)?;
+            }
+        }
+        for round in 0..2_000 {
+            let few: Vec<[i32; 4]> = (0..3 + round % 5).map(|_| self.seeds.pick(&rects)).collect();
+            let plan = covered(&few, 2 + round % 3);
+            self.ask_run(kind, &plan, &order(&plan), 40)?;
+        }
+        // A ring, a comb, stairs, and a hole of one square.
+        let comb: Vec<[i32; 4]> = (0..40).map(|i| [2 * i, 0, 2 * i + 1, 9]).chain([[0, 0, 80, 1]]).collect();
+        let stairs: Vec<[i32; 4]> = (0..60).map(|i| [i, i, i + 3, 70]).collect();
+        let ring = [[0, 0, 9, 1], [0, 8, 9, 9], [0, 0, 1, 9], [8, 0, 9, 9]];
+        let hole = [[0, 0, 5, 3], [0, 4, 5, 9], [0, 3, 2, 4], [3, 3, 5, 4]];
+        for rects in [&comb[..], &stairs, &ring, &hole] {
+            for scale in [1, 7, 12_000] {
+                let scaled: Vec<[i32; 4]> = rects.iter().map(|r| r.map(|z| z * scale)).collect();
+                for margin in [0, 1, 3] {
+                    let plan = grown_by(covered(&scaled, 3), &[margin]);
+                    self.ask_run(kind, &plan, &order(&plan), 400)?;
+                }
+            }
+        }
+        Ok(())
+    }
+
+    /// Whole runs on plans with many rows and many lines, and with ground far out.
+    fn ground_large(&mut self) -> Outcome {
+        let kind = "ground";
+        for (k, size) in [(2, 512), (3, 200), (6, 100)] {
+            let plan = towers(k, size);
+            self.ask_run(kind, &plan, &order(&plan), 40_000)?;
+        }
+        let most = 1_000_000;
+        for margin in [0, 1, 50_000] {
+            let all = equal_plan(&[3, 3], [-most, -most, most, most]);
+            let corners = plan_from(&[
+                &[[-most, -most, 0, 0], [0, 0, most, most], [-most, 0, 0, most], [0, -most, most, 0]],
+                &[[-most, -most, most, most], [-1, -most, 1, most]],
+            ]);
+            for plan in [all, corners] {
+                let plan = grown_by(plan, &[margin, margin]);
+                self.ask_run(kind, &plan, &order(&plan), 20)?;
+            }
+        }
+        for sizes in [[40, 60], [200, 200], [512, 512]] {
+            for style in [4, 6, 8, 9] {
+                let plan = self.seeds.plan_of(&sizes, style);
+                self.ask_run(kind, &plan, &order(&plan), 600_000)?;
+            }
+        }
+        Ok(())
+    }
+}
+
 // ---------------------------------------------------------------- large plans
 
 impl Bench<'_> {
@@ -1241,6 +1331,8 @@ impl Bench<'_> {
         let exact = equal_plan(&[100, 100, 100], [5, 5, 5, 5]);
         self.ask_run(kind, &exact, &order(&exact), 3_000_000)?;
         self.ask_run(kind, &exact, &order(&exact), 2_999_999)?;
+        self.ask_run_with(kind, &exact, &order(&exact), (3_000_000, 2_000_000))?;
+        self.ask_run_with(kind, &exact, &order(&exact), (3_000_000, 1_999_999))?;
         let over = equal_plan(&[4, 500, 501], [-1, -1, 0, 0]);
         self.ask_run(kind, &over, &order(&over), 3_006_007)?;
         let fresh = tickets(&over)[0];
@@ -1284,6 +1376,8 @@ impl Bench<'_> {
         self.ask_order(kind, plan, good.len())?;
         self.ask_run(kind, plan, &good, rows * k)?;
         self.ask_run(kind, plan, &good, (rows * k).saturating_sub(1))?;
+        self.ask_run_with(kind, plan, &good, (rows * k, 2 * rows))?;
+        self.ask_run_with(kind, plan, &good, (rows * k, (2 * rows).saturating_sub(1)))?;
         for _ in 0..50 {
             let row = self.tuple(plan, 1);
             self.ask_row(kind, plan, &row)?;

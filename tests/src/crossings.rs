@@ -1,10 +1,10 @@
 //! Pipes against ducts (02, Q-2): the class call and the crossing report, written a second time from 02's words, and a comparison.
 
-use crate::call::{cells_u32, Plan};
+use crate::call::{cells_i32, cells_u32, Plan};
 use crate::compare::Difference;
 use crate::overlay::{Overlay, Run, Shape};
 use crate::reference::{
-    intersection, is_empty, join, layers_of, plan_fault, refused_run, row_of, ungrown, Rect, REFERENCE,
+    intersection, is_empty, join, layers_of, plan_fault, refused_run, row_of, ungrown, Rect, Rules, REFERENCE,
 };
 use crate::seeds::{grown_by, order, other_orders, plan_from, Seeds, DAMAGES, STYLES};
 
@@ -33,7 +33,14 @@ pub trait Crossings {
     /// The class of the row in the cells.
     fn class(&self, shape: &Shape, cells: &[i32], places: &[u32]) -> ClassTold;
     /// The whole run, and how many rows fall in each class.
-    fn report(&self, shape: &Shape, cells: &[i32], order: &[u32], table: &mut [u32]) -> Report;
+    fn report(
+        &self,
+        shape: &Shape,
+        cells: &[i32],
+        order: &[u32],
+        table: &mut [u32],
+        work: &mut [i32],
+    ) -> Report;
 }
 
 /// What a wrong version gets wrong.
@@ -55,10 +62,14 @@ pub enum Slip {
     EmptyMarginTaken,
     MarginAnywhere,
     MarginBeforeLayers,
+    WorkUnasked,
+    WorkFirst,
+    WorkWritten,
+    CountsWithoutWork,
 }
 
 /// Every slip with its name.
-pub const SLIPS: [(Slip, &str); 16] = [
+pub const SLIPS: [(Slip, &str); 20] = [
     (Slip::OpenEdges, "an end on an edge is not covered"),
     (Slip::EndsExchanged, "the left and the right end are exchanged"),
     (Slip::Largest, "the class is the largest number"),
@@ -75,6 +86,10 @@ pub const SLIPS: [(Slip, &str); 16] = [
     (Slip::EmptyMarginTaken, "a margin on an empty segment layer is taken"),
     (Slip::MarginAnywhere, "16 for a margin on any layer"),
     (Slip::MarginBeforeLayers, "16 for a margin before 15"),
+    (Slip::WorkUnasked, "19 is not told"),
+    (Slip::WorkFirst, "19 is told before 7"),
+    (Slip::WorkWritten, "a report that 7 refuses writes to the work buffer"),
+    (Slip::CountsWithoutWork, "a report that 19 refuses has counts"),
 ];
 
 /// The calls from 02's words, or a wrong version of them.
@@ -176,7 +191,14 @@ impl Crossings for ByWords {
         ClassTold { number: 0, class }
     }
 
-    fn report(&self, shape: &Shape, cells: &[i32], order: &[u32], table: &mut [u32]) -> Report {
+    fn report(
+        &self,
+        shape: &Shape,
+        cells: &[i32],
+        order: &[u32],
+        table: &mut [u32],
+        work: &mut [i32],
+    ) -> Report {
         let mut number = self.fault(shape, cells);
         if self.slips(Slip::OrderFirst) && REFERENCE.order_fault(shape, cells, order) == 5 {
             number = 5;
@@ -184,9 +206,25 @@ impl Crossings for ByWords {
         if number != 0 {
             return Report { run: refused_run(number), counts: [0; 17] };
         }
-        let run = REFERENCE.run(shape, cells, order, table);
+        let rules = match self.0 {
+            Some(Slip::WorkUnasked) => Rules { work: |_, _, _| 0, ..REFERENCE },
+            _ => REFERENCE,
+        };
+        let mut run = rules.run(shape, cells, order, table, work);
+        if run.number == 7 && self.slips(Slip::WorkFirst) {
+            let short = work.len() < 2 * join(&layers_of(shape, cells)).len();
+            run = refused_run(if short { 19 } else { 7 });
+        }
+        if run.number == 7 && self.slips(Slip::WorkWritten) {
+            work.iter_mut().for_each(|cell| *cell = 0);
+        }
         let mut counts = [0; 17];
-        if run.number == 0 || self.slips(Slip::CountsOfRefused) {
+        let counted = match self.0 {
+            Some(Slip::CountsOfRefused) => true,
+            Some(Slip::CountsWithoutWork) => run.number == 19,
+            _ => false,
+        };
+        if run.number == 0 || counted {
             let mut rows = join(&layers_of(shape, cells));
             if self.slips(Slip::LastClassLost) {
                 rows.pop();
@@ -297,11 +335,20 @@ impl Bench<'_> {
         Ok(())
     }
 
-    /// One crossing report, with its table.
-    fn report(&mut self, plan: &Plan, order: &[u32], cells: usize) -> Result<(), Difference> {
+    /// One crossing report, with its table and a work buffer of so many cells, whose contents are free after an acceptance.
+    fn report(
+        &mut self,
+        plan: &Plan,
+        order: &[u32],
+        (cells, work): (usize, usize),
+    ) -> Result<(), Difference> {
         let told = [self.left, self.right].map(|to| {
-            let mut table = cells_u32(cells);
-            (to.report(&plan.shape, &plan.cells, order, &mut table), table)
+            let (mut table, mut work) = (cells_u32(cells), cells_i32(work));
+            let report = to.report(&plan.shape, &plan.cells, order, &mut table, &mut work);
+            if report.run.number == 0 {
+                work.fill(0);
+            }
+            (report, table, work)
         });
         self.cases += 1;
         let (report, counts) = (&told[1].0, told[1].0.counts);
@@ -323,11 +370,16 @@ impl Bench<'_> {
             self.class(plan, &places)?;
         }
         let good = order(plan);
+        let two = 2 * join(&layers_of(&plan.shape, &plan.cells)).len();
         for cells in [0, k, 3 * k + 1, 600] {
-            self.report(plan, &good, cells)?;
+            self.report(plan, &good, (cells, two))?;
         }
+        for work in [0, two.saturating_sub(1), two, two + 1, 600] {
+            self.report(plan, &good, (600, work))?;
+        }
+        self.report(plan, &good, (0, 0))?;
         for other in other_orders(seeds, &good) {
-            self.report(plan, &other, 600)?;
+            self.report(plan, &other, (600, seeds.pick(&[0, 600])))?;
         }
         Ok(())
     }
@@ -336,8 +388,8 @@ impl Bench<'_> {
     fn refused(&mut self, seeds: &mut Seeds, plan: &Plan, orders: &[u32]) -> Result<(), Difference> {
         let places: Vec<u32> = (0..plan.shape.k.min(6)).map(|_| seeds.below(2) as u32).collect();
         self.class(plan, &places)?;
-        self.report(plan, orders, 600)?;
-        self.report(plan, &[7], 600)
+        self.report(plan, orders, (600, seeds.pick(&[0, 600])))?;
+        self.report(plan, &[7], (600, seeds.pick(&[0, 600])))
     }
 }
 
@@ -346,7 +398,7 @@ pub fn compare_crossings(left: &dyn Crossings, right: &dyn Crossings) -> Result<
     let mut seeds = Seeds(SEED);
     let mut bench = Bench { left, right, cases: 0, seen: [0; 18] };
     let (plan, counts) = manual();
-    let told = right.report(&plan.shape, &plan.cells, &order(&plan), &mut cells_u32(12));
+    let told = right.report(&plan.shape, &plan.cells, &order(&plan), &mut cells_u32(12), &mut cells_i32(8));
     assert_eq!(told.counts[..5], counts, "the manual's example");
     bench.plan(&mut seeds, &plan)?;
     for k in 3..=6 {

@@ -1,7 +1,7 @@
 //! Calls and reports whose answers the paper gives, in plain numbers and bytes: every overlay is held to them.
 
 use crate::call::{Answer, Call, Plan};
-use crate::overlay::{Page, PairTold, Reading, RowTold, Shape, Stop, Ticket, Writing};
+use crate::overlay::{Page, PairTold, Reading, RowTold, Run, Shape, Stop, Ticket, Writing};
 use crate::seeds::spell;
 
 /// The cells of plan D: two rectangles, and one that overlaps the first and touches the second.
@@ -283,6 +283,84 @@ pub fn known_tickets() -> Vec<KnownCall> {
     ]
 }
 
+/// A whole run on a plan with its order, into so many cells that are all 7, with a work buffer of so many: its number, rows, trials, area sum and ground, and
+/// the first cells of the table afterwards. What is left in the work buffer is free after an acceptance; those that put the call clear it then.
+fn ran(
+    name: &'static str,
+    (plan, order): (Plan, &[u32]),
+    (table, work): (usize, usize),
+    told: (u32, u32, u64, u64, u64),
+    after: &[u32],
+) -> KnownCall {
+    let (number, rows, trials, area, ground) = told;
+    let call = |after: &[u32], work: Vec<i32>| {
+        let mut cells = vec![7; table];
+        cells[..after.len()].copy_from_slice(after);
+        Call::Run { plan: plan.clone(), order: order.to_vec(), table: cells, work }
+    };
+    KnownCall {
+        name,
+        call: call(&[], vec![7; work]),
+        answer: Answer::Run(Run { number, rows, trials, area, ground }),
+        after: call(after, vec![if number == 0 { 0 } else { 7 }; work]),
+    }
+}
+
+/// Two rectangles of 1,000 by 1,000, the second so far to the right, and one that covers both.
+fn two_over(apart: i32) -> Plan {
+    let (width, sizes) = (1000 + apart, [2, 1, 0, 0, 0, 0]);
+    let cells = vec![0, 0, 1000, 1000, apart, 0, width, 1000, 0, 0, width, 1000];
+    Plan { shape: Shape { k: 2, sizes, margins: [0; 6] }, cells }
+}
+
+/// Whole runs: ground counted once, and each side of check 19.
+pub fn known_runs() -> Vec<KnownCall> {
+    let d = || (shaped(2, 2, 1), &[0, 2, 1][..]);
+    let none = || (Plan { shape: shaped(2, 1, 0).shape, cells: D[..4].to_vec() }, &[0][..]);
+    let (refused, both) = (|number| (number, 0, 0, 0, 0), [0, 0, 1, 0]);
+    let (million, half) = (1_000_000, 1_500_000);
+    vec![
+        ran("a run on D", d(), (5, 4), (0, 2, 4, 250_000, 250_000), &both),
+        ran("a run on D with work to spare", d(), (5, 50), (0, 2, 4, 250_000, 250_000), &both),
+        ran("a work buffer a cell short", d(), (5, 3), refused(19), &[]),
+        ran("a work buffer of a cell for each row", d(), (4, 2), refused(19), &[]),
+        ran("no work buffer", d(), (4, 0), refused(19), &[]),
+        ran("7 before 19", d(), (3, 0), refused(7), &[]),
+        ran("a run that 7 refuses", d(), (3, 4), refused(7), &[]),
+        ran("5 before 19", (d().0, &[0, 1, 2]), (4, 0), refused(5), &[]),
+        ran("no rows and no work buffer", none(), (0, 0), (0, 0, 0, 0, 0), &[]),
+        ran(
+            "the same ground under two rows",
+            (two_over(0), &[0, 1, 2]),
+            (4, 4),
+            (0, 2, 4, 2 * million, million),
+            &both,
+        ),
+        ran(
+            "half of the ground under both",
+            (two_over(500), &[0, 2, 1]),
+            (4, 4),
+            (0, 2, 4, 2 * million, half),
+            &both,
+        ),
+        ran(
+            "two rows that touch",
+            (two_over(1000), &[0, 2, 1]),
+            (4, 4),
+            (0, 2, 4, 2 * million, 2 * million),
+            &both,
+        ),
+        ran(
+            "two rows that touch, in a margin of 250",
+            (grown(two_over(1000), &[250]), &[0, 2, 1]),
+            (4, 4),
+            // The zone that covers both is not grown: 1,250 of the first and of the second, and 500 of them under both.
+            (0, 2, 4, 2 * 1250 * 1000, 2000 * 1000),
+            &both,
+        ),
+    ]
+}
+
 // ---------------------------------------------------------------- reports
 
 /// The line of a square of 10.
@@ -311,6 +389,7 @@ pub fn known_reports() -> Vec<KnownReport> {
     };
     // 79 times 78 is 6,162, and 12,288 cells take 6,144 rows of two.
     let full = format!("PLAN,2/LAYER,79,0/{}LAYER,78,0/{}", SQUARE.repeat(79), SQUARE.repeat(78));
+    let two = |rects: &str| format!("PLAN,2/LAYER,2,0/{rects}LAYER,1,0/RECT,0,0,5000,5000/");
     let mut long = beside_a_square(&format!("LAYER,1,0/{}", SQUARE.repeat(5_000)));
     long.truncate(65_537);
     vec![
@@ -330,5 +409,20 @@ pub fn known_reports() -> Vec<KnownReport> {
         report("65,537 bytes", &long, "REFUSED,13/"),
         report("4,999 square millimetres", &of_height(4_999), "ROW,1,0,0,4999/TOTAL,1,2,0.00/"),
         report("5,000 square millimetres", &of_height(5_000), "ROW,1,0,0,5000/TOTAL,1,2,0.01/"),
+        report(
+            "4,999 square millimetres under two rows",
+            &two("RECT,0,0,1,4999/RECT,0,0,1,4999/"),
+            "ROW,1,0,0,4999/ROW,1,1,0,4999/TOTAL,2,4,0.00/",
+        ),
+        report(
+            "4,999 square millimetres twice, beside each other",
+            &two("RECT,0,0,1,4999/RECT,1,0,2,4999/"),
+            "ROW,1,0,0,4999/ROW,1,1,0,4999/TOTAL,2,4,0.01/",
+        ),
+        report(
+            "half of the ground under both rows",
+            &two("RECT,0,0,1000,1000/RECT,500,0,1500,1000/"),
+            "ROW,1,0,0,1000000/ROW,1,1,0,1000000/TOTAL,2,4,1.50/",
+        ),
     ]
 }

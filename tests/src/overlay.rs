@@ -55,13 +55,14 @@ pub struct Page {
     pub ticket: Ticket,
 }
 
-/// What the whole run returns; number 0 is an acceptance.
+/// What the whole run returns; number 0 is an acceptance. The ground is that of all rows, counted once.
 #[derive(Clone, Copy, Debug, PartialEq, Eq)]
 pub struct Run {
     pub number: u32,
     pub rows: u32,
     pub trials: u64,
     pub area: u64,
+    pub ground: u64,
 }
 
 /// What the row call returns; layer 0 with number 0 says that the cells name no row.
@@ -115,8 +116,8 @@ pub trait Overlay {
         budget: u32,
         table: &mut [u32],
     ) -> Page;
-    /// Does the whole walk into one table.
-    fn run(&self, shape: &Shape, cells: &[i32], order: &[u32], table: &mut [u32]) -> Run;
+    /// Does the whole walk into one table; the work buffer's contents are free after an acceptance.
+    fn run(&self, shape: &Shape, cells: &[i32], order: &[u32], table: &mut [u32], work: &mut [i32]) -> Run;
     /// Reads a plan text into cells.
     fn read(&self, text: &[u8], cells: &mut [i32]) -> Reading;
     /// Writes the text of a plan.

@@ -3,7 +3,9 @@
 use crate::call::Plan;
 use crate::compare::Difference;
 use crate::known::known_reports;
-use crate::seeds::{equal_plan, grown_by, plan_d, plan_from, shape_of, spell, text, Seeds, STYLES};
+use crate::seeds::{
+    covered, equal_plan, grown_by, plan_d, plan_from, shape_of, spell, text, towers, Seeds, STYLES,
+};
 
 /// How many drawn texts are reported.
 const DRAWN: u64 = 300;
@@ -67,7 +69,7 @@ pub fn inputs() -> Vec<Vec<u8>> {
     all
 }
 
-/// Area sums about 4,999 and 5,000, in one row and in several, and the largest.
+/// Ground about 4,999 and 5,000 square millimetres, in one row and in several, beside and over each other, and the largest.
 fn rounding() -> Vec<Plan> {
     let mut plans: Vec<Plan> =
         [(1, 4_999), (1, 5_000), (1, 14_999), (1, 15_000), (3, 333_333), (100, 999_950), (1_000, 1_000_000)]
@@ -75,6 +77,9 @@ fn rounding() -> Vec<Plan> {
             .map(|&(width, height)| equal_plan(&[1, 1], [0, 0, width, height]))
             .collect();
     plans.push(equal_plan(&[2, 1], [0, 0, 1, 4_999]));
+    plans.push(covered(&[[0, 0, 1, 4_999], [1, 0, 2, 4_999]], 2));
+    plans.push(covered(&[[0, 0, 1, 4_999], [0, 4_998, 1, 5_000], [0, 0, 1, 2]], 3));
+    plans.push(covered(&[[0, 0, 100, 100], [50, 50, 150, 150], [100, 0, 150, 50], [0, 100, 50, 150]], 4));
     plans.push(equal_plan(&[2, 2, 2], [0, 0, 50, 99]));
     let largest = equal_plan(&[64, 96], [-1_000_000, -1_000_000, 1_000_000, 1_000_000]);
     plans.push(grown_by(largest.clone(), &[50_000, 50_000]));
@@ -84,13 +89,14 @@ fn rounding() -> Vec<Plan> {
     plans
 }
 
-/// As many rows as the report's table takes for each k, and one more.
+/// As many rows as the report's table takes for each k, and one more; and many rows on many lines.
 fn full_tables() -> Vec<Plan> {
     let sizes: [&[u32]; 5] =
         [&[64, 96], &[16, 16, 16], &[3, 4, 16, 16], &[3, 3, 3, 7, 13], &[2, 4, 4, 4, 4, 4]];
     let exact = sizes.map(|sizes| equal_plan(sizes, [0, 0, 2, 2]));
     let mut plans = exact.to_vec();
     plans.extend(exact.iter().map(one_more));
+    plans.extend([towers(2, 512), towers(3, 200), towers(6, 80)]);
     plans
 }
 

@@ -144,7 +144,8 @@ impl Seeds {
         let mut cells = Vec::new();
         for _ in 0..n {
             let (x, y) = (self.between(-900_000, 900_000), self.between(-900_000, 900_000));
-            cells.extend([x, y, x + self.between(0, side), y + self.between(0, side)]);
+            let (right, top) = (x + self.between(0, side), y + self.between(0, side));
+            cells.extend([x, y, right.min(1_000_000), top.min(1_000_000)]);
         }
         Plan { shape: shape_of(sizes), cells }
     }
@@ -375,6 +376,35 @@ pub fn plan_from(layers: &[&[[i32; 4]]]) -> Plan {
 pub fn equal_plan(sizes: &[u32], rect: [i32; 4]) -> Plan {
     let n = sizes.iter().sum::<u32>() as usize;
     Plan { shape: shape_of(sizes), cells: rect.repeat(n) }
+}
+
+/// A plan of k layers whose rows have just these rectangles as their ground: they are layer 1, and each other layer holds one that covers all.
+pub fn covered(rects: &[[i32; 4]], k: usize) -> Plan {
+    let all: &[[i32; 4]] = &[[-1_000_000, -1_000_000, 1_000_000, 1_000_000]];
+    let layers: Vec<&[[i32; 4]]> = (0..k).map(|j| if j == 0 { rects } else { all }).collect();
+    plan_from(&layers)
+}
+
+/// A plan of k layers of a size, with many rows on many lines. Each layer has towers in a field of its own, no two with a bottom or a top in common; each other
+/// layer has one rectangle that covers that field, and one of them has two, so that each tower is in two rows.
+pub fn towers(k: usize, size: usize) -> Plan {
+    let each = size - k;
+    let (wide, count) = (2_000_000 / k as i32, (k * each) as i32);
+    let field = |j: usize| -1_000_000 + wide * j as i32;
+    let tower = |j: usize, i: usize| {
+        let (step, number) = (wide / (each as i32 + 8), (j * each + i) as i32);
+        // Numbers in another order: 7,919 is a prime.
+        let (left, mixed) =
+            (field(j) + step * i as i32, (i64::from(number) * 7_919 % i64::from(count)) as i32);
+        [left, -500_000 + 100 * mixed, left + 7 * step, 500_000 - 130 * number]
+    };
+    let layer = |j: usize| -> Vec<[i32; 4]> {
+        let fields = (0..k).filter(|&other| other != j).chain([(j + 1) % k]);
+        let cover = |other: usize| [field(other), -1_000_000, field(other) + wide - 2, 1_000_000];
+        fields.map(cover).chain((0..each).map(|i| tower(j, i))).collect()
+    };
+    let layers: Vec<Vec<[i32; 4]>> = (0..k).map(layer).collect();
+    plan_from(&layers.iter().map(Vec::as_slice).collect::<Vec<_>>())
 }
 
 /// The plan with these margins of its first layers.

@@ -2,10 +2,10 @@
 
 use crate::overlay::{Overlay, Page, PairTold, Reading, RowTold, Run, Shape, Stop, Ticket, Writing};
 use crate::reference::{
-    bad_places, count_rows, first_of, grow, intersection, is_empty, join, layers_of, line_of, page_from,
-    pairs, passes, plan_fault, position, rects_at, refused_page, refused_pair, refused_run, report,
-    square_metres, stale, sweep_order, takes, text_of, ticket_at, trials_by, ungrown, Layers, Line, Passes,
-    Rect, Rules, REFERENCE, TOO_MANY,
+    about, area, bad_places, count_rows, first_of, grow, intersection, is_empty, join, layers_of, line_of,
+    page_from, pairs, passes, plan_fault, position, rects_at, refused_page, refused_pair, refused_run,
+    report, square_metres, stale, sweep_order, takes, text_of, ticket_at, trials_by, ungrown, union_of,
+    Layers, Line, Passes, Rect, Row, Rules, REFERENCE, TOO_MANY,
 };
 
 /// The slips.
@@ -121,10 +121,35 @@ pub enum Slip {
     FreshRefusalRecord,
     FreshOldCount,
     FreshEighteenGoing,
+    GroundTwice,
+    GroundDistinct,
+    GroundWide,
+    GroundPoints,
+    GroundAbout,
+    GroundNeighbours,
+    GroundLastReach,
+    GroundGaps,
+    GroundOneLine,
+    GroundGuards,
+    GroundDrawn,
+    GroundNarrow,
+    NineteenIgnored,
+    NineteenByRows,
+    NineteenByCells,
+    NineteenByTable,
+    NineteenExact,
+    NineteenEmpty,
+    NineteenBeforeSeven,
+    NineteenBeforeFive,
+    NineteenWrites,
+    NineteenWorks,
+    SevenWorks,
+    NineteenRows,
+    NineteenGround,
 }
 
 /// Every slip with its description.
-pub const SLIPS: [(Slip, &str); 110] = [
+pub const SLIPS: [(Slip, &str); 135] = [
     (Slip::TiesTwice, "guards chosen with <= on both sides, so ties list a row twice"),
     (Slip::OpenEdges, "open edges"),
     (Slip::SpentAtEnd, "Spent reported where the last trial ended the walk"),
@@ -235,6 +260,31 @@ pub const SLIPS: [(Slip, &str); 110] = [
     (Slip::FreshRefusalRecord, "the record written by a refused fresh start"),
     (Slip::FreshOldCount, "a fresh ticket with the count that the record held"),
     (Slip::FreshEighteenGoing, "the first trial told by a fresh start that 18 refuses"),
+    (Slip::GroundTwice, "ground under two rows counted twice"),
+    (Slip::GroundDistinct, "ground counted once only where two rows have all of it in common"),
+    (Slip::GroundWide, "ground a millimetre too wide"),
+    (Slip::GroundPoints, "points counted and not squares"),
+    (Slip::GroundAbout, "all ground about the rows"),
+    (Slip::GroundNeighbours, "ground taken off only where it lies under the row before"),
+    (Slip::GroundLastReach, "the reach of the last row on a line and not the farthest"),
+    (Slip::GroundGaps, "ground between two rows on a line counted"),
+    (Slip::GroundOneLine, "the farthest reach of any line taken for that of every one"),
+    (Slip::GroundGuards, "the ground of the guards"),
+    (Slip::GroundDrawn, "the union of what the rectangles have in common as they are drawn"),
+    (Slip::GroundNarrow, "the union kept in 32 bits"),
+    (Slip::NineteenIgnored, "19 never told"),
+    (Slip::NineteenByRows, "19 by one cell a row"),
+    (Slip::NineteenByCells, "19 by k cells a row"),
+    (Slip::NineteenByTable, "19 by the rows that the table takes"),
+    (Slip::NineteenExact, "a work buffer that just fits refused"),
+    (Slip::NineteenEmpty, "19 for an empty work buffer where there are no rows"),
+    (Slip::NineteenBeforeSeven, "19 before 7"),
+    (Slip::NineteenBeforeFive, "19 before 5"),
+    (Slip::NineteenWrites, "rows written before refusal 19"),
+    (Slip::NineteenWorks, "the work buffer written before refusal 19"),
+    (Slip::SevenWorks, "the work buffer written before 7 is decided"),
+    (Slip::NineteenRows, "a run that 19 refuses telling its rows"),
+    (Slip::NineteenGround, "a run that 19 refuses telling its ground"),
 ];
 
 /// The reference with one slip.
@@ -317,8 +367,88 @@ fn rules_of(slip: Slip) -> Rules {
         Slip::RightNotGrown => grown(|s, c| by_three(s, c, |g, r| Rect { right: r.right, ..g })),
         Slip::TopNotGrown => grown(|s, c| by_three(s, c, |g, r| Rect { top: r.top, ..g })),
         Slip::OrderUngrown => Rules { sorted: ungrown, ..REFERENCE },
+        _ => ground_rules(slip),
+    }
+}
+
+/// The rules under a slip of counting ground or of asking for a work buffer.
+fn ground_rules(slip: Slip) -> Rules {
+    let counted = |union| Rules { union, ..REFERENCE };
+    let asked = |work| Rules { work, ..REFERENCE };
+    match slip {
+        Slip::GroundTwice => counted(summed),
+        Slip::GroundDistinct => counted(|rects| {
+            let mut each = rects.to_vec();
+            each.sort_unstable();
+            each.dedup();
+            summed(&each)
+        }),
+        Slip::GroundWide => counted(|rects| union_of(&widened(rects, 1, 0))),
+        Slip::GroundPoints => counted(|rects| union_of(&widened(rects, 1, 1))),
+        Slip::GroundAbout => counted(|rects| about(rects).map_or(0, area)),
+        Slip::GroundNeighbours => counted(|rects| {
+            let common = |pair: &[Rect]| intersection(pair[0], pair[1]);
+            let over = rects.windows(2).map(common).filter(|&r| !is_empty(r)).map(area);
+            summed(rects) - over.sum::<u64>()
+        }),
+        Slip::GroundLastReach => {
+            counted(|rects| by_reaches(rects, |_, right| right, |reach, left| reach.max(left)))
+        }
+        Slip::GroundGaps => counted(|rects| {
+            by_reaches(rects, i32::max, |reach, left| if reach == i32::MIN { left } else { reach })
+        }),
+        Slip::GroundOneLine => counted(|rects| {
+            let mut farthest = i32::MIN;
+            let part = |r: &Rect| {
+                let from = farthest.max(r.left).min(r.right);
+                farthest = farthest.max(r.right);
+                area(Rect { left: from, ..*r })
+            };
+            rects.iter().map(part).sum()
+        }),
+        Slip::GroundNarrow => counted(|rects| u64::from(union_of(rects) as u32)),
+        Slip::NineteenIgnored => asked(|_, _, _| 0),
+        Slip::NineteenByRows => asked(|rows, _, _| rows),
+        Slip::NineteenByCells => asked(|rows, k, _| k * rows),
+        Slip::NineteenByTable => asked(|_, _, room| 2 * room),
+        Slip::NineteenExact => asked(|rows, _, _| if rows > 0 { 2 * rows + 1 } else { 0 }),
+        Slip::NineteenEmpty => asked(|rows, _, _| (2 * rows).max(1)),
         _ => REFERENCE,
     }
+}
+
+/// The sum of areas.
+fn summed(rects: &[Rect]) -> u64 {
+    rects.iter().map(|&r| area(r)).sum()
+}
+
+/// Rectangles with ground that reach further to the right, and up.
+fn widened(rects: &[Rect], right: i32, top: i32) -> Vec<Rect> {
+    let wider = |r: &Rect| Rect { right: r.right + right, top: r.top + top, ..*r };
+    rects.iter().filter(|&&r| area(r) > 0).map(wider).collect()
+}
+
+/// Ground row by row, in the order of the lefts: on each strip between two lines what a row adds is from where the ground so far lets it begin to its right.
+fn by_reaches(rects: &[Rect], reached: fn(i32, i32) -> i32, begun: fn(i32, i32) -> i32) -> u64 {
+    let mut lines: Vec<i32> = rects.iter().flat_map(|r| [r.bottom, r.top]).collect();
+    lines.sort_unstable();
+    lines.dedup();
+    let mut reach = vec![i32::MIN; lines.len()];
+    let mut sum = 0;
+    for r in rects {
+        for (at, strip) in lines.windows(2).enumerate().filter(|(_, s)| r.bottom <= s[0] && s[1] <= r.top) {
+            let from = begun(reach[at], r.left).min(r.right);
+            sum += area(Rect { left: from, bottom: strip[0], right: r.right, top: strip[1] });
+            reach[at] = reached(reach[at], r.right);
+        }
+    }
+    sum
+}
+
+/// The ground of the first rows of a table.
+fn grounds(layers: &Layers, table: &[u32], rows: u32) -> Vec<Rect> {
+    let rows = table.chunks(layers.len()).take(rows as usize);
+    rows.filter_map(|row| rects_at(layers, row).into_iter().reduce(intersection)).collect()
 }
 
 /// The area of what a row's rectangles have in common as they are drawn; 0 where that is nothing.
@@ -392,7 +522,7 @@ fn widths_squared(shape: &Shape, cells: &[i32], table: &[u32], rows: u32) -> u64
     table.chunks(layers.len()).take(rows as usize).map(|row| width_squared(&layers, row)).sum()
 }
 
-/// A whole run by way of one page under a rule for passing.
+/// A whole run by way of one page under a rule for passing, which wants no work buffer.
 fn run_by(rule: Passes, plan: (&Shape, &[i32]), order: &[u32], table: &mut [u32]) -> Run {
     let fault = REFERENCE.order_fault(plan.0, plan.1, order);
     if fault != 0 {
@@ -405,8 +535,8 @@ fn run_by(rule: Passes, plan: (&Shape, &[i32]), order: &[u32], table: &mut [u32]
         return refused_run(7);
     }
     let page = page_from(&layers, &list, 0, u32::MAX, table);
-    let trials = list.len() as u64;
-    Run { number: 0, rows: page.rows, trials, area: page.area }
+    let (trials, ground) = (list.len() as u64, union_of(&grounds(&layers, table, page.rows)));
+    Run { number: 0, rows: page.rows, trials, area: page.area, ground }
 }
 
 /// The order by left, place, layer.
@@ -648,7 +778,7 @@ impl Wrong {
             }
         }
         if self.0 == Slip::CapIgnored && count_rows(&layers) <= (table.len() / k) as u64 {
-            return Run { number: 0, rows: count_rows(&layers) as u32, trials: 0, area: 0 };
+            return Run { number: 0, rows: count_rows(&layers) as u32, trials: 0, area: 0, ground: 0 };
         }
         if self.0 == Slip::RunRefusalRows {
             return Run { rows: count_rows(&layers) as u32, ..refused_run(7) };
@@ -894,14 +1024,46 @@ impl Overlay for Wrong {
     }
 
     /// The whole run with its slips.
-    fn run(&self, shape: &Shape, cells: &[i32], order: &[u32], table: &mut [u32]) -> Run {
-        match self.0 {
+    fn run(&self, shape: &Shape, cells: &[i32], order: &[u32], table: &mut [u32], work: &mut [i32]) -> Run {
+        let early = match self.0 {
             Slip::TiesTwice => return run_by(ties_twice, (shape, cells), order, table),
             Slip::OpenEdges => return run_by(open_edges, (shape, cells), order, table),
-            _ => {}
+            Slip::NineteenBeforeFive => plan_fault(shape, cells) == 0,
+            Slip::NineteenBeforeSeven => REFERENCE.order_fault(shape, cells, order) == 0,
+            _ => false,
+        };
+        if early && (work.len() as u64) < 2 * count_rows(&layers_of(shape, cells)) {
+            return refused_run(19);
         }
-        let run = rules_of(self.0).run(shape, cells, order, table);
+        let run = rules_of(self.0).run(shape, cells, order, table, work);
         match (self.0, run.number) {
+            (Slip::SevenWorks, 7) | (Slip::NineteenWorks, 19) => {
+                work.iter_mut().take(1).for_each(|cell| *cell = 0);
+                run
+            }
+            (Slip::NineteenWrites, 19) => {
+                let rows = join(&layers_of(shape, cells));
+                for (cells, row) in table.chunks_exact_mut(shape.k as usize).zip(rows) {
+                    cells.copy_from_slice(&row.places[..shape.k as usize]);
+                }
+                run
+            }
+            (Slip::NineteenRows, 19) => Run { rows: count_rows(&layers_of(shape, cells)) as u32, ..run },
+            (Slip::NineteenGround, 19) => {
+                let rows = join(&layers_of(shape, cells));
+                Run { ground: union_of(&rows.iter().map(|row| row.common).collect::<Vec<_>>()), ..run }
+            }
+            (Slip::GroundGuards, 0) => {
+                let layers = layers_of(shape, cells);
+                let guard =
+                    |row: Row| layers[row.guard as usize - 1][row.places[row.guard as usize - 1] as usize];
+                Run { ground: union_of(&join(&layers).into_iter().map(guard).collect::<Vec<_>>()), ..run }
+            }
+            (Slip::GroundDrawn, 0) => {
+                let mut drawn = grounds(&ungrown(shape, cells), table, run.rows);
+                drawn.retain(|&r| !is_empty(r));
+                Run { ground: union_of(&drawn), ..run }
+            }
             (_, 7) => self.slip_seventh(shape, cells, table),
             (Slip::WidthSquared, 0) => Run { area: widths_squared(shape, cells, table, run.rows), ..run },
             (Slip::AreaUngrown, 0) => Run { area: ungrown_areas(shape, cells, table, run.rows), ..run },
@@ -987,8 +1149,10 @@ impl Overlay for Wrong {
 pub type Report = fn(&[u8]) -> Vec<u8>;
 
 /// Every wrong report with its description.
-pub const REPORT_SLIPS: [(Report, &str); 5] = [
+pub const REPORT_SLIPS: [(Report, &str); 7] = [
     (rounded_rows, "each row's area rounded before summing"),
+    (summed_rows, "a total of all areas, ground under two rows twice"),
+    (short_work, "a work buffer of 6,144 cells lent, which does not suffice for every table"),
     (thirteen_last, "13 asked only of a good text"),
     (thirteen_at_limit, "13 at 65,536 bytes"),
     (cut_short, "a report cut short at 65,536 bytes"),
@@ -1014,6 +1178,16 @@ fn rounded_rows(input: &[u8]) -> Vec<u8> {
         }
     }
     out.into_bytes()
+}
+
+/// The report with the sum of the rows' areas in its total.
+fn summed_rows(input: &[u8]) -> Vec<u8> {
+    Rules { union: summed, ..REFERENCE }.report(input)
+}
+
+/// The report that lends 6,144 cells of work: 12,288 are so many where a row needs four of them.
+fn short_work(input: &[u8]) -> Vec<u8> {
+    Rules { work: |rows, _, _| 4 * rows, ..REFERENCE }.report(input)
 }
 
 /// The report that reads a text before it asks for its length.

@@ -125,9 +125,18 @@ impl Overlay for Counting {
         page
     }
 
-    fn run(&self, shape: &Shape, cells: &[i32], order: &[u32], table: &mut [u32]) -> Run {
-        let run = REFERENCE.run(shape, cells, order, table);
+    fn run(&self, shape: &Shape, cells: &[i32], order: &[u32], table: &mut [u32], work: &mut [i32]) -> Run {
+        let run = REFERENCE.run(shape, cells, order, table, work);
         self.count(format!("run {}", run.number));
+        if run.number == 0 && run.rows > 1 {
+            let shared = if run.ground < run.area { "shared" } else { "apart" };
+            self.count(format!("run with ground {shared}, k {}", shape.k));
+        }
+        if run.number == 0 && work.len() == 2 * run.rows as usize {
+            self.count(
+                if work.is_empty() { "run without work" } else { "run with work that just fits" }.into(),
+            );
+        }
         if run.number == 0 && join(&ungrown(shape, cells)).len() < run.rows as usize {
             self.count("run with rows only by margins".into());
         }
@@ -156,7 +165,9 @@ fn outcomes() -> Vec<String> {
     let mut add =
         |name: &str, numbers: &[u32]| all.extend(numbers.iter().map(|number| format!("{name} {number}")));
     add("order", &[0, 1, 2, 17, 3, 4, 8]);
-    add("run", &[0, 1, 2, 17, 3, 4, 5, 7]);
+    add("run", &[0, 1, 2, 17, 3, 4, 5, 7, 19]);
+    add("run with ground shared, k", &[2, 3, 4, 5, 6]);
+    add("run with ground apart, k", &[2, 3, 4, 5, 6]);
     add("read", &[0, 9, 10, 11]);
     add("write", &[0, 1, 2, 17, 3, 4, 12]);
     add("row 0 layer", &[0, 1, 2, 3, 4, 5, 6]);
@@ -191,6 +202,7 @@ fn outcomes() -> Vec<String> {
     let grown = ["order", "row", "guard", "area", "pair none", "run with rows"];
     all.extend(grown.map(|what| format!("{what} only by margins")));
     all.extend(["row that just touches by margins", "read margins"].map(String::from));
+    all.extend(["run without work", "run with work that just fits"].map(String::from));
     all
 }
 

@@ -3,17 +3,18 @@
 use overlay_tests::call::Plan;
 use overlay_tests::overlay::{Overlay, Page, Reading, Run, Shape, Stop, Ticket, Writing};
 use overlay_tests::reference::{
-    each_row_by_loops, each_row_by_product, each_tuple, join, layers_of, passes, report, row_of,
-    share_a_point, square_metres, trials_by, walk_length, Rect, REFERENCE,
+    area, each_row_by_loops, each_row_by_product, each_tuple, intersection, is_empty, join, layers_of,
+    passes, report, row_of, share_a_point, square_metres, trials_by, union_by_lines, union_by_squares,
+    union_of, walk_length, Rect, REFERENCE,
 };
 use overlay_tests::seeds::{
-    equal_plan, grown_by, order, plan_d, plan_from, shape_of, spell, text, Seeds, STYLES,
+    covered, equal_plan, grown_by, order, plan_d, plan_from, shape_of, spell, text, towers, Seeds, STYLES,
 };
 
 /// A whole run into so many cells.
 fn run(plan: &Plan, cells: usize) -> (Run, Vec<u32>) {
-    let mut table = vec![77; cells];
-    (REFERENCE.run(&plan.shape, &plan.cells, &order(plan), &mut table), table)
+    let (mut table, mut work) = (vec![77; cells], vec![77; cells]);
+    (REFERENCE.run(&plan.shape, &plan.cells, &order(plan), &mut table, &mut work), table)
 }
 
 /// The fresh ticket.
@@ -52,7 +53,7 @@ fn number_with(right: &str) -> u32 {
 #[test]
 fn d_has_two_rows_and_four_trials() {
     let (told, table) = run(&plan_d(), 6);
-    assert_eq!(told, Run { number: 0, rows: 2, trials: 4, area: 250_000 });
+    assert_eq!(told, Run { number: 0, rows: 2, trials: 4, area: 250_000, ground: 250_000 });
     assert_eq!(table, [0, 0, 1, 0, 77, 77]);
     let rows = join(&layers_of(&plan_d().shape, &plan_d().cells));
     assert_eq!((rows[0].guard, rows[0].area, rows[1].guard, rows[1].area), (2, 250_000, 1, 0));
@@ -99,7 +100,7 @@ fn d_without_budget_and_cells_is_full() {
 #[test]
 fn equal_rectangles_have_one_row_with_the_guard_in_layer_1() {
     let plan = equal_plan(&[1, 1], [3, 4, 5, 6]);
-    assert_eq!(run(&plan, 2).0, Run { number: 0, rows: 1, trials: 2, area: 4 });
+    assert_eq!(run(&plan, 2).0, Run { number: 0, rows: 1, trials: 2, area: 4, ground: 4 });
     let told = REFERENCE.row(&plan.shape, &plan.cells, &[0, 0]);
     assert_eq!((told.number, told.layer, told.area), (0, 1, 4));
 }
@@ -107,14 +108,14 @@ fn equal_rectangles_have_one_row_with_the_guard_in_layer_1() {
 #[test]
 fn sizes_1_and_0_have_no_trials() {
     let plan = equal_plan(&[1, 0], [3, 4, 5, 6]);
-    assert_eq!(run(&plan, 0).0, Run { number: 0, rows: 0, trials: 0, area: 0 });
+    assert_eq!(run(&plan, 0).0, Run { number: 0, rows: 0, trials: 0, area: 0, ground: 0 });
     assert_eq!(fresh(&plan), Ticket::ENDED);
 }
 
 #[test]
 fn sizes_1_1_0_have_two_trials_and_no_row() {
     let plan = equal_plan(&[1, 1, 0], [3, 4, 5, 6]);
-    assert_eq!(run(&plan, 0).0, Run { number: 0, rows: 0, trials: 2, area: 0 });
+    assert_eq!(run(&plan, 0).0, Run { number: 0, rows: 0, trials: 2, area: 0, ground: 0 });
 }
 
 #[test]
@@ -228,8 +229,10 @@ fn report_of_d() {
 #[test]
 fn square_metres_are_rounded_once() {
     assert_eq!([4_999, 5_000, 250_000, 999_995_000].map(square_metres), ["0.00", "0.01", "0.25", "1000.00"]);
-    let plan = equal_plan(&[2, 1], [0, 0, 1, 4_999]);
-    assert_eq!(report(&text(&plan)), spell("ROW,1,0,0,4999/ROW,1,1,0,4999/TOTAL,2,4,0.01/"));
+    let beside = covered(&[[0, 0, 1, 4_999], [1, 0, 2, 4_999]], 2);
+    assert_eq!(report(&text(&beside)), spell("ROW,1,0,0,4999/ROW,1,1,0,4999/TOTAL,2,4,0.01/"));
+    let over = equal_plan(&[2, 1], [0, 0, 1, 4_999]);
+    assert_eq!(report(&text(&over)), spell("ROW,1,0,0,4999/ROW,1,1,0,4999/TOTAL,2,4,0.00/"));
 }
 
 #[test]
@@ -307,6 +310,95 @@ fn no_area_is_above_the_largest() {
     let most = grown_by(most, &[50_000, 50_000]);
     assert_eq!(REFERENCE.row(&most.shape, &most.cells, &[0, 0]).area, 4_410_000_000_000);
     assert!(plans().iter().flat_map(rows_of).all(|(_, area)| area <= 4_410_000_000_000));
+}
+
+/// The ground of each row of a plan.
+fn grounds(plan: &Plan) -> Vec<Rect> {
+    join(&layers_of(&plan.shape, &plan.cells)).iter().map(|row| row.common).collect()
+}
+
+/// The union by areas alone: those of all rectangles, less those of each two in common, with those of each three, and so on.
+fn by_inclusion(rects: &[Rect]) -> i64 {
+    let mut sum = 0;
+    for chosen in 1..1u32 << rects.len() {
+        let some = rects.iter().enumerate().filter(|(at, _)| chosen >> at & 1 == 1).map(|(_, r)| *r);
+        let common = some.reduce(intersection).filter(|&r| !is_empty(r)).map_or(0, area) as i64;
+        sum += if chosen.count_ones() % 2 == 1 { common } else { -common };
+    }
+    sum
+}
+
+#[test]
+fn squares_lines_and_areas_count_the_same_ground() {
+    let (mut by_squares, mut by_areas) = (0, 0);
+    for plan in plans() {
+        let rects = grounds(&plan);
+        if rects.iter().all(|r| r.left >= -60 && r.right <= 60 && r.bottom >= -60 && r.top <= 60) {
+            assert_eq!(union_by_squares(&rects), union_by_lines(&rects), "{plan:?}");
+            by_squares += 1;
+        }
+        if rects.len() <= 12 {
+            assert_eq!(union_by_lines(&rects) as i64, by_inclusion(&rects), "{plan:?}");
+            by_areas += 1;
+        }
+    }
+    assert!(by_squares > 200 && by_areas > 200, "{by_squares} and {by_areas} plans");
+}
+
+#[test]
+fn ground_lies_between_the_largest_row_and_the_sum() {
+    let mut apart = 0;
+    for plan in plans() {
+        let (rects, told) = (grounds(&plan), run(&plan, 9_000).0);
+        let over = |a: &Rect, b: &Rect| {
+            let common = intersection(*a, *b);
+            !is_empty(common) && area(common) > 0
+        };
+        assert!(told.ground <= told.area && rects.iter().all(|&r| area(r) <= told.ground));
+        let shared = (0..rects.len()).any(|i| rects[..i].iter().any(|r| over(r, &rects[i])));
+        assert_eq!(told.ground == told.area, !shared, "{plan:?}");
+        apart += u64::from(!shared && rects.len() > 1);
+    }
+    assert!(apart > 20, "{apart} plans whose rows share no square");
+}
+
+#[test]
+fn towers_have_as_many_rows_and_lines_as_said() {
+    for (k, size) in [(2, 512), (3, 60), (6, 512)] {
+        let rects = grounds(&towers(k, size));
+        assert_eq!(rects.len(), 2 * k * (size - k));
+        let mut lines: Vec<i32> = rects.iter().flat_map(|r| [r.bottom, r.top]).collect();
+        lines.sort_unstable();
+        lines.dedup();
+        assert_eq!(lines.len(), rects.len());
+    }
+}
+
+#[test]
+fn a_work_buffer_of_two_cells_a_row() {
+    let number = |table: usize, work: usize| {
+        let (mut cells, mut lent) = (vec![77; table], vec![77; work]);
+        let told = REFERENCE.run(&plan_d().shape, &plan_d().cells, &order(&plan_d()), &mut cells, &mut lent);
+        if told.number != 0 {
+            assert_eq!((told.ground, cells, lent), (0, vec![77; table], vec![77; work]));
+        }
+        told.number
+    };
+    assert_eq!([number(4, 4), number(4, 3), number(4, 0), number(3, 0), number(3, 4)], [0, 19, 19, 7, 7]);
+}
+
+#[test]
+fn the_ground_of_the_forecourt_is_counted_once() {
+    let text = include_bytes!("../../examples/forecourt.plan");
+    let mut cells = vec![0; 12_288];
+    let shape = REFERENCE.read(text, &mut cells).shape;
+    cells.truncate(4 * shape.sizes.iter().sum::<u32>() as usize);
+    let plan = Plan { shape, cells };
+    let told = run(&plan, 1_000).0;
+    assert_eq!((told.rows, told.trials, told.area), (7, 232, 1_340_000));
+    assert_eq!(told.ground, union_of(&grounds(&plan)));
+    let printed = format!("TOTAL\t7\t232\t{}\n", square_metres(told.ground));
+    assert!(report(text).ends_with(printed.as_bytes()));
 }
 
 #[test]

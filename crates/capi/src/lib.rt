@@ -44,7 +44,7 @@ ghost use Rattle.sweep.specs.Sweep.{orderCause, makeCause, orderAfter};
 ghost use Rattle.rows.specs.RowCall.{rowCall, rowValues};
 ghost use Rattle.pairs.specs.PairCall.{pairCall, pairValues};
 ghost use Rattle.crossings.specs.ClassCall.{classCall, classValues};
-ghost use Rattle.paging.specs.Calls.{freshCall, freshCounter, pageCause, pageCall, pageTable, pageCounter, runCall, runTable, runValues, crossingCall, crossingTable};
+ghost use Rattle.paging.specs.Calls.{freshCall, freshCounter, pageCause, pageCall, pageTable, pageCounter, runCause, runCall, runTable, WorkAfter, runValues, crossingRunCause, crossingCall, crossingTable};
 ghost use Rattle.survey.specs.CoverCall.{coverCause, coverAnswer, coverValues, coverAfter};
 ghost use Rattle.text.specs.Reader.{readCause, readAnswer, cellsAfter};
 ghost use Rattle.text.specs.Writer.{writeCause, writeLength, bufferAfter};
@@ -281,7 +281,7 @@ pub extern "C" fn overlay_fetch_page(
     stop_number(stop)
 }
 
-// All rows of a plan's table. The answer's cells: rows, probes, area.
+// All rows of a plan's table. The answer's cells: rows, probes, area, ground counted once.
 #[no_mangle]
 pub extern "C" fn overlay_run_all(
     k: u32,
@@ -290,11 +290,13 @@ pub extern "C" fn overlay_run_all(
     cells: &[i32],
     order: &[u32],
     table: &mut [u32],
-    answer: &mut [u64; 3],
+    work: &mut [i32],
+    answer: &mut [u64; 4],
 ) -> u32
-    ensures number { λ r. ⌜ r ≡ runValues (runCall (shapeOf k (now (sizes .entry)) (now (margins .entry))) (now (cells .entry)) (now (order .entry)) (now (table .entry))) .number ⌝ }
-    ensures answer { λ _. ⌜ now (answer .exit) ≡ runCells (runValues (runCall (shapeOf k (now (sizes .entry)) (now (margins .entry))) (now (cells .entry)) (now (order .entry)) (now (table .entry)))) ⌝ }
-    ensures table { λ _. ⌜ now (table .exit) ≡ runTable (shapeOf k (now (sizes .entry)) (now (margins .entry))) (now (cells .entry)) (now (order .entry)) (now (table .entry)) ⌝ }
+    ensures number { λ r. ⌜ r ≡ runValues (runCall (shapeOf k (now (sizes .entry)) (now (margins .entry))) (now (cells .entry)) (now (order .entry)) (now (table .entry)) (length (now (work .entry)))) .number ⌝ }
+    ensures answer { λ _. ⌜ now (answer .exit) ≡ runCells (runValues (runCall (shapeOf k (now (sizes .entry)) (now (margins .entry))) (now (cells .entry)) (now (order .entry)) (now (table .entry)) (length (now (work .entry))))) ⌝ }
+    ensures table { λ _. ⌜ now (table .exit) ≡ runTable (shapeOf k (now (sizes .entry)) (now (margins .entry))) (now (cells .entry)) (now (order .entry)) (now (table .entry)) (length (now (work .entry))) ⌝ }
+    ensures work { λ _. ⌜ WorkAfter (runCause (shapeOf k (now (sizes .entry)) (now (margins .entry))) (now (cells .entry)) (now (order .entry)) (now (table .entry)) (length (now (work .entry)))) (now (work .entry)) (now (work .exit)) ⌝ }
 {
     let six = *sizes;
     let wide = *margins;
@@ -307,6 +309,7 @@ pub extern "C" fn overlay_run_all(
         cells,
         order,
         table,
+        work,
     );
     *answer = run_cells(run);
     run_number(run)
@@ -350,13 +353,15 @@ pub extern "C" fn overlay_crossing_report(
     cells: &[i32],
     order: &[u32],
     table: &mut [u32],
-    answer: &mut [u64; 3],
+    work: &mut [i32],
+    answer: &mut [u64; 4],
     counts: &mut [u32; 17],
 ) -> u32
-    ensures number { λ r. ⌜ r ≡ runValues (crossingCall (shapeOf k (now (sizes .entry)) (now (margins .entry))) (now (cells .entry)) (now (order .entry)) (now (table .entry)) .run) .number ⌝ }
-    ensures answer { λ _. ⌜ now (answer .exit) ≡ runCells (runValues (crossingCall (shapeOf k (now (sizes .entry)) (now (margins .entry))) (now (cells .entry)) (now (order .entry)) (now (table .entry)) .run)) ⌝ }
-    ensures counts { λ _. ⌜ now (counts .exit) ≡ crossingCall (shapeOf k (now (sizes .entry)) (now (margins .entry))) (now (cells .entry)) (now (order .entry)) (now (table .entry)) .counts ⌝ }
-    ensures table { λ _. ⌜ now (table .exit) ≡ crossingTable (shapeOf k (now (sizes .entry)) (now (margins .entry))) (now (cells .entry)) (now (order .entry)) (now (table .entry)) ⌝ }
+    ensures number { λ r. ⌜ r ≡ runValues (crossingCall (shapeOf k (now (sizes .entry)) (now (margins .entry))) (now (cells .entry)) (now (order .entry)) (now (table .entry)) (length (now (work .entry))) .run) .number ⌝ }
+    ensures answer { λ _. ⌜ now (answer .exit) ≡ runCells (runValues (crossingCall (shapeOf k (now (sizes .entry)) (now (margins .entry))) (now (cells .entry)) (now (order .entry)) (now (table .entry)) (length (now (work .entry))) .run)) ⌝ }
+    ensures counts { λ _. ⌜ now (counts .exit) ≡ crossingCall (shapeOf k (now (sizes .entry)) (now (margins .entry))) (now (cells .entry)) (now (order .entry)) (now (table .entry)) (length (now (work .entry))) .counts ⌝ }
+    ensures table { λ _. ⌜ now (table .exit) ≡ crossingTable (shapeOf k (now (sizes .entry)) (now (margins .entry))) (now (cells .entry)) (now (order .entry)) (now (table .entry)) (length (now (work .entry))) ⌝ }
+    ensures work { λ _. ⌜ WorkAfter (crossingRunCause (shapeOf k (now (sizes .entry)) (now (margins .entry))) (now (cells .entry)) (now (order .entry)) (now (table .entry)) (length (now (work .entry)))) (now (work .entry)) (now (work .exit)) ⌝ }
 {
     let six = *sizes;
     let wide = *margins;
@@ -369,6 +374,7 @@ pub extern "C" fn overlay_crossing_report(
         cells,
         order,
         table,
+        work,
     );
     let run = report.run;
     let seventeen = report.counts;

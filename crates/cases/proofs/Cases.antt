@@ -1,17 +1,17 @@
 -- The cases hold, as the definitions compute them.
 use mathlib.Core.Path.{_≡_, refl, ap, _∙_}
-use mathlib.Core.List.{List, _∷_}
+use mathlib.Core.List.{List, _∷_, [], _++_, List·Memᴰ, List·Memᴰ·head, List·Memᴰ·tail}
 use Prim.Native.Nat.{ℕ, _+_, _*_, _/_, _≤_, _<_}
 use native.Mathlib.Omega.{arith}
 use lib.Dec.{lit≤}
-use lib.IntN.{pos}
+use lib.IntN.{pos, ℤ}
 use lib.ListN.{length, getD-replicate, length-replicate}
 use borrow.Author.Tests.{le-leb, eq-eqb}
-use Rattle.lists.specs.Lists.{All, none-left, _and_, same}
+use Rattle.lists.specs.Lists.{All, none-left, _and_, same, Pairwise, done, _then_}
 use Rattle.totals.specs.Totals.{totalOf, valueOf}
-use Rattle.geometry.specs.Rectangles.{maxZ, minZ, common, nonempty, meets, between, held, inRange, grownBy, areaOf}
+use Rattle.geometry.specs.Rectangles.{maxZ, minZ, common, nonempty, meets, between, held, inRange, grownBy, areaOf, inExtent}
 use Rattle.geometry.proofs.Machine.{rect-eq}
-use Rattle.plan.specs.Plan.{rectAt, grown, fitsAt, planCause}
+use Rattle.plan.specs.Plan.{rectAt, grown, fitsAt, planCause, layers}
 use Rattle.plan.proofs.Plan.{ranged-all}
 use Rattle.sweep.specs.Sweep.{before, sweepOrder, orderCause}
 use Rattle.join.specs.Join.{areaIn, sameZ}
@@ -30,7 +30,14 @@ use Rattle.text.specs.Reader.{readCause, textShape, textCells}
 use Rattle.printing.specs.Lines as Lines
 use Rattle.printing.specs.Lines.{rowFields, squareMetres}
 use Rattle.reporting.specs.Report.{emptyTable, reportCause, reportOf}
-use Rattle.cases.specs.Cases.{Case, shape, alike, Holds, GroundHolds}
+use Rattle.cases.specs.Cases.{Case, shape, alike, Holds, GroundHolds, dText, smallText, twiceText}
+use mathlib.Core.Bool.{true}
+use Rattle.geometry.specs.declared.Rect.{Rect}
+use Rattle.geometry.proofs.Integers.{zarith, add-law}
+use Rattle.ground.specs.Union.{covers, unionOf, grounds}
+use Rattle.ground.specs.Theorems.{corners}
+use Rattle.ground.proofs.Theorems.{union-holds}
+use Rattle.paging.specs.Overlays.{overlay}
 
 -- a layer of n rectangles at one point, and an empty one, are a plan for n up to 512: shown for any n, since to compute it takes long
 point-at : (n i : ℕ) → i < n → rectAt (alike n) i ≡ record { left = pos 0; bottom = pos 0; right = pos 0; top = pos 0 }
@@ -51,6 +58,45 @@ one-layer n h =
       eq-eqb (length (alike n)) (4 * (n + 0)) (omega arith),
       ranged-all (alike n) (length (alike n) / 4) (λ i k. ap inRange (point-at n i (omega arith)) ∙ (unfold held between nonempty in refl)),
     )
+
+-- ---- reports: the union of a table's rows is not computed square by square
+-- what is printed for a text whose rows' common ground comes to u
+report-with : (t : List ℕ) (u : ℕ) → let s = textShape t in let cells = textCells t in reportCause t ≡ 0 → runCause s cells (sweepOrder (grown s cells)) emptyTable 12288 ≡ 0
+    → unionOf (grounds (layers s cells) (overlay s cells .table)) ≡ u → reportOf t ≡ Lines.rowLines (layers s cells) (overlay s cells .table) ++ Lines.totalLine (length (overlay s cells .table)) (length (overlay s cells .walk)) (totalOf u)
+unfolding reportOf runCall
+report-with t u e f g = rw (e, f, g)
+
+-- two rectangles that share no square
+abbrev Apart : Rect → Rect → Type 0
+Apart r s = (x y : ℤ) → covers x y r ≡ true → covers x y s ≡ true → ⊥
+
+two-apart : (r s : Rect) → inExtent r ≡ true → inExtent s ≡ true → Apart r s → unionOf (r ∷ s ∷ []) ≡ areaOf r + (areaOf s + 0)
+two-apart r s p q h = union-holds .apart (r ∷ s ∷ []) (_and_ p (_and_ q none-left)) (_then_ (_and_ h none-left) (_then_ none-left done))
+
+union-d : unionOf (corners (pos 500) (pos 500) (pos 1000) (pos 1000) ∷ corners (pos 1000) (pos 500) (pos 1500) (pos 500) ∷ []) ≡ 250000
+unfolding areaOf held between nonempty
+union-d = two-apart (corners (pos 500) (pos 500) (pos 1000) (pos 1000)) (corners (pos 1000) (pos 500) (pos 1500) (pos 500)) refl refl flat
+  where
+    flat : Apart (corners (pos 500) (pos 500) (pos 1000) (pos 1000)) (corners (pos 1000) (pos 500) (pos 1500) (pos 500))
+    flat x y a b = let h = union-holds .square x y _ .0 b in omega (zarith, h .bottom, h .top, add-law y (pos 1))
+
+union-small : unionOf (corners (pos 0) (pos 0) (pos 70) (pos 70) ∷ corners (pos 0) (pos 100) (pos 70) (pos 170) ∷ []) ≡ 9800
+unfolding areaOf held between nonempty
+union-small = two-apart (corners (pos 0) (pos 0) (pos 70) (pos 70)) (corners (pos 0) (pos 100) (pos 70) (pos 170)) refl refl above
+  where
+    above : Apart (corners (pos 0) (pos 0) (pos 70) (pos 70)) (corners (pos 0) (pos 100) (pos 70) (pos 170))
+    above x y a b = let h = union-holds .square x y _ .0 a in let k = union-holds .square x y _ .0 b in omega (zarith, h .top, k .bottom, add-law y (pos 1))
+
+-- the same rectangle twice is it once
+union-twice : unionOf (corners (pos 0) (pos 0) (pos 1000) (pos 1000) ∷ corners (pos 0) (pos 0) (pos 1000) (pos 1000) ∷ []) ≡ 1000000
+unfolding areaOf held between nonempty
+union-twice =
+    let r = corners (pos 0) (pos 0) (pos 1000) (pos 1000) in
+    union-holds .members (r ∷ r ∷ []) (r ∷ []) (λ q. (less q, λ m. List·Memᴰ·tail m)) ∙ union-holds .apart (r ∷ []) (_and_ refl none-left) (_then_ none-left done)
+  where
+    less : (q : Rect) → List·Memᴰ q (corners (pos 0) (pos 0) (pos 1000) (pos 1000) ∷ corners (pos 0) (pos 0) (pos 1000) (pos 1000) ∷ []) → List·Memᴰ q (corners (pos 0) (pos 0) (pos 1000) (pos 1000) ∷ [])
+    less q (List·Memᴰ·head e) = List·Memᴰ·head e
+    less q (List·Memᴰ·tail m) = m
 
 infixr 20 _also_
 -- one more case holds
@@ -83,8 +129,9 @@ ground-holds =
     also refl
     also refl
     also refl
-    also refl
-    also refl
+    also report-with dText 250000 refl refl union-d
+    also report-with smallText 9800 refl refl union-small
+    also report-with twiceText 1000000 refl refl union-twice
     also refl
     also (refl, refl)
     also (refl, refl)

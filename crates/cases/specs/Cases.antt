@@ -192,12 +192,19 @@ bytesWith right =
 abbrev pub refusedNine : List ℕ
 refusedNine = 82 ∷ 69 ∷ 70 ∷ 85 ∷ 83 ∷ 69 ∷ 68 ∷ 9 ∷ 57 ∷ 10 ∷ []
 
--- a plan of two rows of 4,900 square millimetres, and its report
+-- a plan of two rows of 4,900 square millimetres that share no ground, and its report
 abbrev pub smallText : List ℕ
-smallText = bytes "PLAN\t2\nLAYER\t1\t0\nRECT\t0\t0\t70\t70\nLAYER\t2\t0\nRECT\t0\t0\t70\t70\nRECT\t0\t0\t70\t70\n"
+smallText = bytes "PLAN\t2\nLAYER\t1\t0\nRECT\t0\t0\t70\t170\nLAYER\t2\t0\nRECT\t0\t0\t70\t70\nRECT\t0\t100\t70\t170\n"
 
 abbrev pub smallReport : List ℕ
 smallReport = bytes "ROW\t1\t0\t0\t4900\nROW\t1\t0\t1\t4900\nTOTAL\t2\t4\t0.01\n"
+
+-- one of two rows over the same square metre, and its report
+abbrev pub twiceText : List ℕ
+twiceText = bytes "PLAN\t2\nLAYER\t1\t0\nRECT\t0\t0\t1000\t1000\nLAYER\t2\t0\nRECT\t0\t0\t1000\t1000\nRECT\t0\t0\t1000\t1000\n"
+
+abbrev pub twiceReport : List ℕ
+twiceReport = bytes "ROW\t1\t0\t0\t1000000\nROW\t1\t0\t1\t1000000\nTOTAL\t2\t4\t1.00\n"
 
 -- ---- the list
 abbrev pub cases : List Case
@@ -242,6 +249,8 @@ cases =
     ∷ Reported dText dReport
     -- of two areas that are rounded to 0.00 each, the sum is rounded to 0.01
     ∷ Reported smallText smallReport
+    -- 02, Q-6: "ground under two rows entered only once"
+    ∷ Reported twiceText twiceReport
     -- ours: a refusal, in bytes
     ∷ Reported [] refusedNine
     -- ours: a text in bytes, with numbers below 0 and a left that is not the bottom; a number of eight digits

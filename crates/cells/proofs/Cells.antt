@@ -1,5 +1,5 @@
 -- What the readers and writers of cells need.
-use mathlib.Core.Path.{_≡_, refl, sym, ap, _∙_}
+use mathlib.Core.Path.{_≡_, refl, sym, ap, _∙_, ap₂}
 use mathlib.Core.List.{List, [], _∷_}
 use mathlib.Core.Bool.{Bool, true, false, cond}
 use Prim.Native.Nat.{ℕ, zero, suc, _/_, _%_, _≤_, _<_}
@@ -53,12 +53,12 @@ after-due given p n told none = sym (ap (λ m. onCause m (ticketCells (p .ticket
 
 -- ---- whole runs
 -- a refusal has cells of 0
-pub run-none : {r : Run} {cause : ℕ} → Refused cause ≡ r → 0 ∷ 0 ∷ 0 ∷ [] ≡ runCells (runValues r)
-run-none e = ap (λ (n : ℕ). 0 ∷ 0 ∷ n ∷ []) (sym (value-total 0)) ∙ ap (λ (a : Run). runCells (runValues a)) e
+pub run-none : {r : Run} {cause : ℕ} → Refused cause ≡ r → 0 ∷ 0 ∷ 0 ∷ 0 ∷ [] ≡ runCells (runValues r)
+run-none e = ap (λ (n : ℕ). 0 ∷ 0 ∷ n ∷ n ∷ []) (sym (value-total 0)) ∙ ap (λ (a : Run). runCells (runValues a)) e
 
 -- an acceptance those of its values
-pub run-some : {r : Run} {rows probes : ℕ} {area : Total} (v : ℕ) → v ≡ valueOf area → Done rows probes area ≡ r → rows ∷ probes ∷ v ∷ [] ≡ runCells (runValues r)
-run-some {rows = rows} {probes = probes} v q e = ap (λ (n : ℕ). rows ∷ probes ∷ n ∷ []) q ∙ ap (λ (a : Run). runCells (runValues a)) e
+pub run-some : {r : Run} {rows probes : ℕ} {area ground : Total} (v u : ℕ) → v ≡ valueOf area → u ≡ valueOf ground → Done rows probes area ground ≡ r → rows ∷ probes ∷ v ∷ u ∷ [] ≡ runCells (runValues r)
+run-some {rows = rows} {probes = probes} v u p q e = ap₂ (λ (n m : ℕ). rows ∷ probes ∷ n ∷ m ∷ []) p q ∙ ap (λ (a : Run). runCells (runValues a)) e
 
 -- a kind above 3 is no strip
 pub strip-none : (kind : ℕ) (lower upper : Float) → (kind ≡ 0 → ⊥) → (kind ≡ 1 → ⊥) → (kind ≡ 2 → ⊥) → (kind ≡ 3 → ⊥) → Between (ofBits binary64 0x3ff0_0000_0000_0000) (ofBits binary64 0) ≡ stripIn kind lower upper

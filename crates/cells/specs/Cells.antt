@@ -61,9 +61,9 @@ pageCells p = stopCode (p .stop) ∷ p .rows ∷ p .probes ∷ valueOf (p .area)
 abbrev pub ticketAfter : List ℕ → Page → List ℕ
 ticketAfter given p = onCause (stopNumber (p .stop)) (ticketCells (p .ticket)) (λ n. given)
 
--- ---- whole runs: rows, probes, area
+-- ---- whole runs: rows, probes, area, ground counted once
 abbrev pub runCells : RunValues → List ℕ
-runCells v = v .rows ∷ v .probes ∷ valueOf (v .area) ∷ []
+runCells v = v .rows ∷ v .probes ∷ valueOf (v .area) ∷ valueOf (v .ground) ∷ []
 
 -- ---- rows: the guard's layer, area
 abbrev pub rowCells : RowValues → List ℕ

@@ -219,17 +219,19 @@ pub fn run_number(run: Run) -> u32
 {
     match run {
         Run::Refused(cause) => cause,
-        Run::Done(_, _, _) => 0,
+        Run::Done(_, _, _, _) => 0,
     }
 }
 
 // The cells of a whole run's answer.
-pub fn run_cells(run: Run) -> [u64; 3]
+pub fn run_cells(run: Run) -> [u64; 4]
     ensures { λ r. ⌜ r ≡ runCells (runValues run) ⌝ }
 {
     match run {
-        Run::Refused(_) => [0, 0, 0],
-        Run::Done(rows, probes, area) => [rows as u64, probes, value(area)],
+        Run::Refused(_) => [0, 0, 0, 0],
+        Run::Done(rows, probes, area, ground) => {
+            [rows as u64, probes, value(area), value(ground)]
+        }
     }
 }
 

@@ -2,4 +2,5 @@
 pub mod Counting
 pub mod Answering
 pub mod Running
+pub mod Grounds
 pub mod Calls

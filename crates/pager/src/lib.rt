@@ -7,6 +7,7 @@ use answers::first_cursor;
 use answers::page_at;
 use answers::refused_page;
 use answers::run_from;
+use answers::with_ground;
 use counters::fresh_cause;
 use counters::write_count;
 use cursors::ended_cursor;
@@ -19,8 +20,9 @@ use plan::Shape;
 use slots::frame_of;
 use sweep::open_plan;
 ghost use mathlib.Core.Path.{_≡_};
+ghost use lib.ListN.{length};
 ghost use Rattle.pager.specs.Answers.{firstOf};
-ghost use Rattle.paging.specs.Calls.{freshCall, freshCounter, pageCause, stopNumber, pageCall, pageTable, pageCounter, runCall, runTable};
+ghost use Rattle.paging.specs.Calls.{freshCall, freshCounter, pageCause, stopNumber, pageCall, pageTable, pageCounter, runCause, runCall, runTable, WorkAfter};
 
 // The ticket of the first probe of a plan's walk; a run begins, and its counter is 0 (01: the fresh-ticket call; 02: the run record).
 pub fn fresh_ticket(shape: Shape, cells: &[i32], order: &[u32], counter: &mut [u64]) -> Fresh
@@ -97,10 +99,17 @@ pub fn fetch_page(
     )
 }
 
-// All rows of a plan's table into a lent table, if they fit (01: the whole run).
-pub fn run_all(shape: Shape, cells: &[i32], order: &[u32], table: &mut [u32]) -> Run
-    ensures answer { λ r. ⌜ r ≡ runCall shape (now (cells .entry)) (now (order .entry)) (now (table .entry)) ⌝ }
-    ensures table { λ _. ⌜ now (table .exit) ≡ runTable shape (now (cells .entry)) (now (order .entry)) (now (table .entry)) ⌝ }
+// All rows of a plan's table into a lent table, if they fit (01: the whole run). The work buffer is asked for its length (02, Q-6) and not used.
+pub fn run_all(
+    shape: Shape,
+    cells: &[i32],
+    order: &[u32],
+    table: &mut [u32],
+    work: &mut [i32],
+) -> Run
+    ensures answer { λ r. ⌜ r ≡ runCall shape (now (cells .entry)) (now (order .entry)) (now (table .entry)) (length (now (work .entry))) ⌝ }
+    ensures table { λ _. ⌜ now (table .exit) ≡ runTable shape (now (cells .entry)) (now (order .entry)) (now (table .entry)) (length (now (work .entry))) ⌝ }
+    ensures work { λ _. ⌜ WorkAfter (runCause shape (now (cells .entry)) (now (order .entry)) (now (table .entry)) (length (now (work .entry)))) (now (work .entry)) (now (work .exit)) ⌝ }
 {
     let mut run = [0i32; MOST_CELLS];
     let cause = open_plan(shape, cells, order, &mut run);
@@ -108,5 +117,6 @@ pub fn run_all(shape: Shape, cells: &[i32], order: &[u32], table: &mut [u32]) ->
         return Run::Refused(cause);
     }
     let n = cells.len();
-    run_from(frame_of(shape), &run[..n], order, table)
+    let listing = run_from(frame_of(shape), &run[..n], order, table, work.len());
+    with_ground(listing, shape, &run[..n], table)
 }

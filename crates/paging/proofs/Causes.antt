@@ -2,7 +2,7 @@
 use mathlib.Core.Path.{_≡_, refl}
 use mathlib.Core.Logic.{_↔_, Iff·trans, ⊎-elim}
 use mathlib.Core.List.{List}
-use Prim.Native.Nat.{ℕ, zero, suc, _<_}
+use Prim.Native.Nat.{ℕ, zero, suc, _*_, _≤_, _<_}
 use native.Mathlib.Omega.{arith}
 use lib.IntN.{ℤ}
 use lib.Dec.{leb}
@@ -12,7 +12,7 @@ use Rattle.lists.specs.Lists.{Tells, isSome, listIn}
 use Rattle.lists.proofs.Tests.{le-tells, tells}
 use Rattle.totals.specs.declared.Total.{Total}
 use Rattle.plan.specs.declared.Shape.{Shape}
-use Rattle.plan.specs.Causes.{onCause}
+use Rattle.plan.specs.Causes.{unless, _orElse_, onCause}
 use Rattle.plan.specs.Plan.{sizesOf, Typed, Sound, grown}
 use Rattle.plan.proofs.Plan.{check-passed, check-failed, check-others}
 use Rattle.plan.proofs.Growing.{framed}
@@ -62,9 +62,9 @@ module _ (s : Shape) (cells : List ℤ) (order : List ℕ) (typed : Typed s) (c 
   cursor-not e = order-not s cells order 18 (omega arith) (λ z. omega arith) (cursor-others 18 (omega arith) (λ z. omega arith) .0 e)
 
 -- so each applies exactly where it should
-pub call-causes : (s : Shape) (cells : List ℤ) (order : List ℕ) (t : Ticket) (counter table : List ℕ) → Typed s → CallCauses s cells order t counter table
+pub call-causes : (s : Shape) (cells : List ℤ) (order : List ℕ) (t : Ticket) (counter table : List ℕ) (work : ℕ) → Typed s → CallCauses s cells order t counter table work
 unfolding freshCause pageCause runCause
-call-causes s cells order t counter table typed = record {
+call-causes s cells order t counter table work typed = record {
   fresh = check-passed first 17 (λ z. one);
   fresh-eighteen = check-failed first 17 (order-not s cells order 18 (omega arith) (λ e. omega arith)) (λ z. one);
   fresh-others = λ k p x. check-others first (oneCell counter) 18 k p x;
@@ -72,9 +72,10 @@ call-causes s cells order t counter table typed = record {
   six = Iff·trans (check-others named (current (t .count) counter) 18 6 (omega arith) (λ e. omega arith)) (cursor-failed s cells order typed c);
   eighteen = Iff·trans (check-failed named 17 (cursor-not s cells order typed c) (λ z. current-tells (t .count) counter)) (λ h. (passed .0 (h .0) .0, passed .0 (h .0) .1, ⊎-elim (λ e. e) (λ n. absurd (h .1 n)) (stale-or-not (t .count) counter)), λ h. (passed .1 (h .0, h .1), λ n. n (h .2)));
   page-others = λ k p x y. Iff·trans (check-others named (current (t .count) counter) 18 k p y) (cursor-others s cells order typed c k p x);
-  run = check-passed first 6 (λ z. le-tells n m);
-  run-others = λ k p x. check-others first (leb n m) 7 k p x;
-  seven = let i = check-failed first 6 (order-not s cells order 7 (omega arith) (λ e. omega arith)) (λ z. le-tells n m) in (λ e. let h = i .0 e in (h .0, omega (arith, h .1)), λ h. i .1 (h .0, λ l. omega (arith, h .1)));
+  run = Iff·trans (check-passed roomy 18 (λ z. le-tells (2 * n) work)) (λ h. let g = fitted .0 (h .0) in (g .0, g .1, h .1), λ h. (fitted .1 (h .0, h .1), h .2));
+  run-others = λ k p x y. Iff·trans (check-others roomy (leb (2 * n) work) 19 k p y) (check-others first (leb n m) 7 k p x);
+  seven = Iff·trans (check-others roomy (leb (2 * n) work) 19 7 (omega arith) (λ e. omega arith)) (let i = check-failed first 6 (order-not s cells order 7 (omega arith) (λ e. omega arith)) (λ z. le-tells n m) in (λ e. let h = i .0 e in (h .0, omega (arith, h .1)), λ h. i .1 (h .0, λ l. omega (arith, h .1))));
+  nineteen = Iff·trans (check-failed roomy 18 (λ e. order-not s cells order 19 (omega arith) (λ q. omega arith) (check-others first (leb n m) 7 19 (omega arith) (λ q. omega arith) .0 e)) (λ z. le-tells (2 * n) work)) (λ h. let g = fitted .0 (h .0) in (g .0, g .1, omega (arith, h .1)), λ h. (fitted .1 (h .0, h .1), λ l. omega (arith, h .2)));
 }
   where
     c : Cursor
@@ -92,6 +93,13 @@ call-causes s cells order t counter table typed = record {
     m : ℕ
     m = room (overlay s cells) table
 
+    -- 7 is behind
+    roomy : ℕ
+    roomy = first orElse unless (leb n m) 7
+
+    fitted : (roomy ≡ 0) ↔ ((first ≡ 0) × (n ≤ m))
+    fitted = check-passed first 6 (λ z. le-tells n m)
+
     one : Tells (length counter ≡ 1) (oneCell counter)
     one = tells (oneCell counter) (eqb-true (length counter) 1) (eq-eqb (length counter) 1)
 
@@ -103,7 +111,7 @@ call-causes s cells order t counter table typed = record {
 pub stop-none : (o : Overlay Rect) (c : Cursor) (budget : ℕ) (table : List ℕ) → stopNumber (paged o c budget table .stop) ≡ 0
 stop-none o c budget table = ⊎-elim (λ e. rw e) (⊎-elim (λ e. rw e) (λ e. rw e)) (page-stops rowOf budget (room o table) (listIn (resume o c)))
 
-done-no : {rows probes n : ℕ} {area : Total} → _≡_ {A = Run} (Run.Done rows probes area) (Run.Refused n) → ⊥
+done-no : {rows probes n : ℕ} {area ground : Total} → _≡_ {A = Run} (Run.Done rows probes area ground) (Run.Refused n) → ⊥
 done-no q = let z : _≡_ {A = ℕ} 0 1 = cc in omega arith
 
 pub refuses : (x : Call) → Refuses x
@@ -111,11 +119,11 @@ unfolding freshCall freshCounter pageCall pageTable pageCounter runCall runTable
 refuses x = record {
   fresh-number = fresh-told (freshCause (x .shape) (x .cells) (x .order) (x .counter)) _;
   page-number = page-told (served x .cause) (paged (overlay (x .shape) (x .cells)) (x .ticket .cursor) (x .budget) (x .table)) (stop-none (overlay (x .shape) (x .cells)) (x .ticket .cursor) (x .budget) (x .table));
-  run-number = run-told (runCause (x .shape) (x .cells) (x .order) (x .table)) _ _ _;
-  run-done = λ e n q. done-no (rw e at q);
+  run-number = λ work. run-told (runCause (x .shape) (x .cells) (x .order) (x .table) work) _ _ _ _;
+  run-done = λ work e n q. done-no (rw e at q);
   fresh = λ n e. (rw e, rw e);
   page = λ n e. (rw e, rw e, rw e);
-  run = λ n e. (rw e, rw e);
+  run = λ work n e. (rw e, rw e);
 }
   where
     fresh-told : (n : ℕ) (t : Ticket) → _≡_ {A = ℕ} ((onCause {A = Fresh} n (record { number = 0; ticket = t }) (λ m. record { number = m; ticket = record { cursor = endedCursor; count = 0 } })) .number) n
@@ -126,6 +134,6 @@ refuses x = record {
     page-told zero p h = h
     page-told (suc n) p h = refl
 
-    run-told : (n rows probes : ℕ) (area : Total) → _≡_ {A = ℕ} (runValues (onCause {A = Run} n (Run.Done rows probes area) (λ m. Run.Refused m)) .number) n
-    run-told zero rows probes area = refl
-    run-told (suc n) rows probes area = refl
+    run-told : (n rows probes : ℕ) (area ground : Total) → _≡_ {A = ℕ} (runValues (onCause {A = Run} n (Run.Done rows probes area ground) (λ m. Run.Refused m)) .number) n
+    run-told zero rows probes area ground = refl
+    run-told (suc n) rows probes area ground = refl

@@ -119,7 +119,7 @@ module _ (s : Shape) (cells : List ℤ) where
   module _ (order counter : List ℕ) (typed : Typed s) (f : freshCause s cells order counter ≡ 0) where
     -- the checks that the fresh call passes
     fresh-checks : (orderCause s cells order ≡ 0) × (length counter ≡ 1)
-    fresh-checks = call-causes s cells order (begun s cells order counter .newest) counter [] typed .fresh .0 f
+    fresh-checks = call-causes s cells order (begun s cells order counter .newest) counter [] 0 typed .fresh .0 f
 
     run-laws : Lawful (overlay s cells)
     run-laws = laws s cells (sound-of s cells order typed (fresh-checks .0))
@@ -229,6 +229,6 @@ demand3 = record {
   page = page-left;
   paging = λ s cells order counter xs typed f. run-holding s cells order counter typed f xs;
   chained = chained-holds;
-  run = λ s cells order table typed e. run-holds s cells order table (sound-of s cells order typed e) e;
-  crossing = λ s cells order table typed p e. crossing-holds s cells order table p (sound-of s cells order typed e) e;
+  run = λ s cells order table work typed e h. run-holds s cells order table work (sound-of s cells order typed e) e h;
+  crossing = λ s cells order table work typed p e h. crossing-holds s cells order table work p (sound-of s cells order typed e) e h;
 }

@@ -2,7 +2,8 @@
 -- run record (Q-5), a lent list of cells.
 use mathlib.Core.List.{List, [], _∷_, map}
 use mathlib.Core.Bool.{Bool, _&&_}
-use Prim.Native.Nat.{ℕ, _+_}
+use mathlib.Core.Path.{_≡_}
+use Prim.Native.Nat.{ℕ, _+_, _*_}
 use lib.IntN.{ℤ}
 use lib.Dec.{eqb, leb, ltb}
 use lib.ListN.{length, getD, replicate}
@@ -12,6 +13,7 @@ use Rattle.plan.specs.declared.Shape.{Shape}
 use Rattle.plan.specs.Causes.{unless, _orElse_, onCause}
 use Rattle.plan.specs.Plan.{layers}
 use Rattle.sweep.specs.Sweep.{orderCause}
+use Rattle.ground.specs.Union.{unionOf, grounds}
 use Rattle.crossings.specs.ClassCall.{crossingCause, classCounts}
 use Rattle.walk.specs.Walk.{placesOf}
 use Rattle.paging.specs.declared.Cursor.{Cursor}
@@ -91,19 +93,29 @@ pageTable s cells order t counter budget table =
     let o = overlay s cells in onCause (pageCause s cells order t counter) (fill (map (placesOf (o .sizes)) (paged o (t .cursor) budget table .rows)) table) (λ n. table)
 
 -- ---- the whole run
--- its checks: 1 2 17 3 4 5, and 7 where "J has more rows than the table takes"
-unfoldable pub runCause : Shape → List ℤ → List ℕ → List ℕ → ℕ
-runCause s cells order table =
-    let o = overlay s cells in orderCause s cells order orElse unless (leb (length (o .table)) (room o table)) 7
+-- its checks: 1 2 17 3 4 5, 7 where "J has more rows than the table takes", and 19. 02, Q-6: "work buffer shorter than two cells a row, 19, after 7"; `work` is
+-- how many cells it has
+unfoldable pub runCause : Shape → List ℤ → List ℕ → List ℕ → (work : ℕ) → ℕ
+runCause s cells order table work =
+    let o = overlay s cells in orderCause s cells order orElse unless (leb (length (o .table)) (room o table)) 7 orElse unless (leb (2 * length (o .table)) work) 19
 
--- 01: "returns rows, trials (the walk's length) and the area sum"
-unfoldable pub runCall : Shape → List ℤ → List ℕ → List ℕ → Run
-runCall s cells order table =
-    let o = overlay s cells in onCause (runCause s cells order table) (Run.Done (length (o .table)) (length (o .walk)) (areaSum o (o .table))) (λ n. Run.Refused n)
+-- 02, Q-6: "the union of all rows' common ground"
+abbrev pub groundOnce : Shape → List ℤ → Total
+groundOnce s cells = totalOf (unionOf (grounds (layers s cells) (overlay s cells .table)))
+
+-- 01: "returns rows, trials (the walk's length) and the area sum"; 02, Q-6: "The whole run returns this beside the area sum"
+unfoldable pub runCall : Shape → List ℤ → List ℕ → List ℕ → (work : ℕ) → Run
+runCall s cells order table work =
+    let o = overlay s cells in onCause (runCause s cells order table work) (Run.Done (length (o .table)) (length (o .walk)) (areaSum o (o .table)) (groundOnce s cells)) (λ n. Run.Refused n)
 
 -- the table afterwards: filled with all rows, or after a refusal what it was
-unfoldable pub runTable : Shape → List ℤ → List ℕ → List ℕ → List ℕ
-runTable s cells order table = onCause (runCause s cells order table) (fill (overlay s cells .table) table) (λ n. table)
+unfoldable pub runTable : Shape → List ℤ → List ℕ → List ℕ → (work : ℕ) → List ℕ
+runTable s cells order table work = onCause (runCause s cells order table work) (fill (overlay s cells .table) table) (λ n. table)
+
+-- the work buffer afterwards. 02, Q-6: its "contents afterwards are free", its length is what it was; after a refusal it "too is then left as it was"
+pub record WorkAfter (cause : ℕ) (before after : List ℤ) : Type 0 where
+  pub long : length after ≡ length before
+  pub kept : (cause ≡ 0 → ⊥) → after ≡ before
 
 -- 01's number and values of each answer. 01: "A refusal returns its number and 0 for all else"
 pub record RunValues : Type 0 where
@@ -111,21 +123,22 @@ pub record RunValues : Type 0 where
   pub rows : ℕ
   pub probes : ℕ
   pub area : Total
+  pub ground : Total
 
 abbrev pub runValues : Run → RunValues
-runValues (Run.Refused cause) = record { number = cause; rows = 0; probes = 0; area = totalOf 0 }
-runValues (Run.Done rows probes area) = record { number = 0; rows = rows; probes = probes; area = area }
+runValues (Run.Refused cause) = record { number = cause; rows = 0; probes = 0; area = totalOf 0; ground = totalOf 0 }
+runValues (Run.Done rows probes area ground) = record { number = 0; rows = rows; probes = probes; area = area; ground = ground }
 
 -- ---- the crossing report
 -- its checks: 1 2 17 3 4 15 16, then the whole run's
-unfoldable pub crossingRunCause : Shape → List ℤ → List ℕ → List ℕ → ℕ
-crossingRunCause s cells order table = crossingCause s cells orElse runCause s cells order table
+unfoldable pub crossingRunCause : Shape → List ℤ → List ℕ → List ℕ → (work : ℕ) → ℕ
+crossingRunCause s cells order table work = crossingCause s cells orElse runCause s cells order table work
 
 -- 02: "a whole run that also returns how many rows fall in each class 0 to 16". A refusal returns its number and 0 for all else, the counts too
-unfoldable pub crossingCall : Shape → List ℤ → List ℕ → List ℕ → CrossingReport
-crossingCall s cells order table =
-    onCause (crossingRunCause s cells order table) (record { run = runCall s cells order table; counts = classCounts (layers s cells) (overlay s cells .table) }) (λ n. record { run = Run.Refused n; counts = replicate 17 0 })
+unfoldable pub crossingCall : Shape → List ℤ → List ℕ → List ℕ → (work : ℕ) → CrossingReport
+crossingCall s cells order table work =
+    onCause (crossingRunCause s cells order table work) (record { run = runCall s cells order table work; counts = classCounts (layers s cells) (overlay s cells .table) }) (λ n. record { run = Run.Refused n; counts = replicate 17 0 })
 
 -- the table afterwards: that of the whole run, or after a refusal what it was
-unfoldable pub crossingTable : Shape → List ℤ → List ℕ → List ℕ → List ℕ
-crossingTable s cells order table = onCause (crossingRunCause s cells order table) (runTable s cells order table) (λ n. table)
+unfoldable pub crossingTable : Shape → List ℤ → List ℕ → List ℕ → (work : ℕ) → List ℕ
+crossingTable s cells order table work = onCause (crossingRunCause s cells order table work) (runTable s cells order table work) (λ n. table)

@@ -13,12 +13,13 @@ use Rattle.lists.specs.Lists.{All, sum, keep}
 use Rattle.totals.specs.Totals.{totalOf, valueOf}
 use Rattle.plan.specs.declared.Shape.{Shape}
 use Rattle.plan.specs.Causes.{onCause}
-use Rattle.plan.specs.Plan.{layersOf, sizesOf, Typed, Sound, grown}
+use Rattle.plan.specs.Plan.{layersOf, sizesOf, grown, layers, Typed, Sound}
 use Rattle.plan.specs.Spots.{Has, spotOf}
 use Rattle.sweep.specs.Sweep.{sweepOrder, orderCause}
 use Rattle.join.specs.Join.{areaIn}
 use Rattle.join.specs.Table.{tableOf}
 use Rattle.join.specs.Theorems.{TableHolds}
+use Rattle.ground.specs.Union.{unionOf, grounds}
 use Rattle.search.specs.Traversal.{Probe, rowOf}
 use Rattle.search.specs.Paging.{rowsOf}
 use Rattle.search.specs.Names.{Named}
@@ -172,7 +173,7 @@ abbrev pub Stale : (count : ℕ) → List ℕ → Type 0
 Stale count counter = (length counter ≡ 1 → ⊥) ⊎ ((144115188075855872 ≤ getD counter 0 0) ⊎ (getD counter 0 0 ≡ count → ⊥))
 
 -- each cause of the calls applies in exactly the stated case, and where no earlier one does (1 to 5 and 17: `Plans` of the crate plan, `Sweeps` of sweep)
-pub record CallCauses (s : Shape) (cells : List ℤ) (order : List ℕ) (t : Ticket) (counter : List ℕ) (table : List ℕ) : Type 0 where
+pub record CallCauses (s : Shape) (cells : List ℤ) (order : List ℕ) (t : Ticket) (counter : List ℕ) (table : List ℕ) (work : ℕ) : Type 0 where
   pub fresh : (freshCause s cells order counter ≡ 0) ↔ ((orderCause s cells order ≡ 0) × (length counter ≡ 1))
   pub fresh-eighteen : (freshCause s cells order counter ≡ 18) ↔ ((orderCause s cells order ≡ 0) × (length counter ≡ 1 → ⊥))
   pub fresh-others : (n : ℕ) → 0 < n → (n ≡ 18 → ⊥) → (freshCause s cells order counter ≡ n) ↔ (orderCause s cells order ≡ n)
@@ -180,9 +181,11 @@ pub record CallCauses (s : Shape) (cells : List ℤ) (order : List ℕ) (t : Tic
   pub six : (pageCause s cells order t counter ≡ 6) ↔ ((orderCause s cells order ≡ 0) × (Good (sizesOf s) (grown s cells) (t .cursor) → ⊥))
   pub eighteen : (pageCause s cells order t counter ≡ 18) ↔ ((orderCause s cells order ≡ 0) × Good (sizesOf s) (grown s cells) (t .cursor) × Stale (t .count) counter)
   pub page-others : (n : ℕ) → 0 < n → (n ≡ 6 → ⊥) → (n ≡ 18 → ⊥) → (pageCause s cells order t counter ≡ n) ↔ (orderCause s cells order ≡ n)
-  pub run : (runCause s cells order table ≡ 0) ↔ ((orderCause s cells order ≡ 0) × (length (overlay s cells .table) ≤ room (overlay s cells) table))
-  pub run-others : (n : ℕ) → 0 < n → (n ≡ 7 → ⊥) → (runCause s cells order table ≡ n) ↔ (orderCause s cells order ≡ n)
-  pub seven : (runCause s cells order table ≡ 7) ↔ ((orderCause s cells order ≡ 0) × (room (overlay s cells) table < length (overlay s cells .table)))
+  pub run : (runCause s cells order table work ≡ 0) ↔ ((orderCause s cells order ≡ 0) × (length (overlay s cells .table) ≤ room (overlay s cells) table) × (2 * length (overlay s cells .table) ≤ work))
+  pub run-others : (n : ℕ) → 0 < n → (n ≡ 7 → ⊥) → (n ≡ 19 → ⊥) → (runCause s cells order table work ≡ n) ↔ (orderCause s cells order ≡ n)
+  pub seven : (runCause s cells order table work ≡ 7) ↔ ((orderCause s cells order ≡ 0) × (room (overlay s cells) table < length (overlay s cells .table)))
+  -- 02, Q-6: "work buffer shorter than two cells a row, 19, after 7"
+  pub nineteen : (runCause s cells order table work ≡ 19) ↔ ((orderCause s cells order ≡ 0) × (length (overlay s cells .table) ≤ room (overlay s cells) table) × (work < 2 * length (overlay s cells .table)))
 
 -- 01: "A refusal returns its number and 0 for all else; a page call also returns its ticket as given, and the fresh-ticket call returns Ended." Every
 -- buffer is left as it was
@@ -190,17 +193,17 @@ pub record Refuses (x : Call) : Type 0 where
   -- the number that each call tells
   pub fresh-number : freshCall (x .shape) (x .cells) (x .order) (x .counter) .number ≡ freshCause (x .shape) (x .cells) (x .order) (x .counter)
   pub page-number : stopNumber (served x .answer .stop) ≡ served x .cause
-  pub run-number : runValues (runCall (x .shape) (x .cells) (x .order) (x .table)) .number ≡ runCause (x .shape) (x .cells) (x .order) (x .table)
+  pub run-number : (work : ℕ) → runValues (runCall (x .shape) (x .cells) (x .order) (x .table) work) .number ≡ runCause (x .shape) (x .cells) (x .order) (x .table) work
   -- an accepted run is told as one
-  pub run-done : runCause (x .shape) (x .cells) (x .order) (x .table) ≡ 0 → (n : ℕ) → runCall (x .shape) (x .cells) (x .order) (x .table) ≡ Run.Refused n → ⊥
+  pub run-done : (work : ℕ) → runCause (x .shape) (x .cells) (x .order) (x .table) work ≡ 0 → (n : ℕ) → runCall (x .shape) (x .cells) (x .order) (x .table) work ≡ Run.Refused n → ⊥
   -- all else
   pub fresh : (n : ℕ) → freshCause (x .shape) (x .cells) (x .order) (x .counter) ≡ suc n
       → (freshCall (x .shape) (x .cells) (x .order) (x .counter) ≡ record { number = suc n; ticket = record { cursor = record { ended = true; layer = 0; place = 0; filled = 0; chosen = 0 ∷ 0 ∷ 0 ∷ 0 ∷ 0 ∷ []; next = 0 }; count = 0 } })
       × (freshCounter (x .shape) (x .cells) (x .order) (x .counter) ≡ x .counter)
   pub page : (n : ℕ) → served x .cause ≡ suc n
       → (served x .answer ≡ record { stop = Refused (suc n); rows = 0; probes = 0; area = totalOf 0; ticket = x .ticket }) × (served x .after ≡ x .table) × (served x .counted ≡ x .counter)
-  pub run : (n : ℕ) → runCause (x .shape) (x .cells) (x .order) (x .table) ≡ suc n
-      → (runValues (runCall (x .shape) (x .cells) (x .order) (x .table)) ≡ record { number = suc n; rows = 0; probes = 0; area = totalOf 0 }) × (runTable (x .shape) (x .cells) (x .order) (x .table) ≡ x .table)
+  pub run : (work n : ℕ) → runCause (x .shape) (x .cells) (x .order) (x .table) work ≡ suc n
+      → (runValues (runCall (x .shape) (x .cells) (x .order) (x .table) work) ≡ record { number = suc n; rows = 0; probes = 0; area = totalOf 0; ground = totalOf 0 }) × (runTable (x .shape) (x .cells) (x .order) (x .table) work ≡ x .table)
 
 -- ---- one accepted page call on an overlay; w is what is left of the walk at its ticket
 pub record PageHolds {S : Type 0} (o : Overlay S) (x : Served) (w : List (Probe S)) : Type 0 where
@@ -257,10 +260,13 @@ pub record RunHolds (s : Shape) (cells : List ℤ) (table : List ℕ) (cause : �
   pub rows : cause ≡ 0 → rowsIn (s .k) (v .rows) after ≡ overlay s cells .table
   pub counts : let o = overlay s cells in cause ≡ 0
       → (v .number ≡ 0) × (v .rows ≡ length (o .table)) × (v .probes ≡ length (o .walk)) × (valueOf (v .area) ≡ sum (map (o .area) (o .table)))
+  -- 02, Q-6: "the union of all rows' common ground" (ground, `UnionHolds`, `TableUnions`); at most the area sum, and at least each row's area
+  pub ground : cause ≡ 0 → (valueOf (v .ground) ≡ unionOf (grounds (layers s cells) (overlay s cells .table))) × (valueOf (v .ground) ≤ valueOf (v .area))
+      × ((row : List ℕ) → List·Memᴰ row (overlay s cells .table) → overlay s cells .area row ≤ valueOf (v .ground))
   -- the rest of the table is kept; where the table does not fit, all of it
   pub long : length after ≡ length table
   pub kept : let n = s .k * length (overlay s cells .table) in cause ≡ 0 → drop n after ≡ drop n table
-  pub fails : let o = overlay s cells in room o table < length (o .table) → (v ≡ record { number = 7; rows = 0; probes = 0; area = totalOf 0 }) × (after ≡ table)
+  pub fails : let o = overlay s cells in room o table < length (o .table) → (v ≡ record { number = 7; rows = 0; probes = 0; area = totalOf 0; ground = totalOf 0 }) × (after ≡ table)
 
 pub record Demand3 : Type 0 where
   -- "A plan has one table and one walk, and the rows of the walk are that table, in its order."
@@ -269,7 +275,7 @@ pub record Demand3 : Type 0 where
   -- its overlay is made of these, of the sizes of its layers, and of the areas of rows, all of the grown plan
   pub both : (s : Shape) (cells : List ℤ) → let ns = sizesOf s in let g = grown s cells in overlay s cells ≡ record { sizes = ns; walk = walkOf ns g; table = tableOf ns g; area = areaIn (layersOf ns g) }
   -- the causes of the calls
-  pub causes : (s : Shape) (cells : List ℤ) (order : List ℕ) (t : Ticket) (counter table : List ℕ) → Typed s → CallCauses s cells order t counter table
+  pub causes : (s : Shape) (cells : List ℤ) (order : List ℕ) (t : Ticket) (counter table : List ℕ) (work : ℕ) → Typed s → CallCauses s cells order t counter table work
   -- what a refused call returns and leaves
   pub refused : (x : Call) → Refuses x
   -- 01: "never more than 1,000,000"
@@ -291,9 +297,9 @@ pub record Demand3 : Type 0 where
   -- as 01 has it: each accepted call brings the ticket that is due, the first one the fresh ticket, on any plan. It follows from `paging`: an accepted call
   -- brings the counter of its ticket
   pub chained : (s : Shape) (cells : List ℤ) (xs : List Call) → Typed s → Chain s cells (freshCall s cells (sweepOrder (grown s cells)) (0 ∷ []) .ticket) xs → PagingHolds (overlay s cells) (map served xs)
-  -- the whole run
-  pub run : (s : Shape) (cells : List ℤ) (order table : List ℕ) → Typed s → orderCause s cells order ≡ 0
-      → RunHolds s cells table (runCause s cells order table) (runValues (runCall s cells order table)) (runTable s cells order table)
+  -- the whole run. 02, Q-6: "In demand 3 the whole run is from then on also given a work buffer long enough"
+  pub run : (s : Shape) (cells : List ℤ) (order table : List ℕ) (work : ℕ) → Typed s → orderCause s cells order ≡ 0 → 2 * length (overlay s cells .table) ≤ work
+      → RunHolds s cells table (runCause s cells order table work) (runValues (runCall s cells order table work)) (runTable s cells order table work)
   -- 02, Q-2: "In demand 3 the crossing report is given a plan to which neither applies", neither 15 nor 16. Its causes, refusals and class counts: tally, `CrossingReports`
-  pub crossing : (s : Shape) (cells : List ℤ) (order table : List ℕ) → Typed s → crossingCause s cells ≡ 0 → orderCause s cells order ≡ 0
-      → RunHolds s cells table (crossingRunCause s cells order table) (runValues (crossingCall s cells order table .run)) (crossingTable s cells order table)
+  pub crossing : (s : Shape) (cells : List ℤ) (order table : List ℕ) (work : ℕ) → Typed s → crossingCause s cells ≡ 0 → orderCause s cells order ≡ 0 → 2 * length (overlay s cells .table) ≤ work
+      → RunHolds s cells table (crossingRunCause s cells order table work) (runValues (crossingCall s cells order table work .run)) (crossingTable s cells order table work)

@@ -37,10 +37,10 @@ pub struct Page {
     pub ticket: Ticket,
 }
 
-// What the whole run answers: how many rows, how many probes, and the sum of the areas.
+// What the whole run answers: how many rows, how many probes, the sum of the areas, and the ground of all rows counted once.
 pub enum Run {
     Refused(u32),
-    Done(u32, u64, Total),
+    Done(u32, u64, Total, Total),
 }
 
 // What the crossing report answers: what the whole run does, and how many rows fall in each class, 0 to 16.

@@ -22,11 +22,11 @@ use Rattle.paging.specs.Calls.{runCause}
 use Rattle.paging.proofs.Tables.{cells-long}
 use Rattle.paging.proofs.Overlays.{lawful}
 use Rattle.sweep.proofs.Theorems.{order-passes}
-use Rattle.paging.proofs.Runs.{run-holds}
+use Rattle.paging.proofs.Runs.{run-holds, run-passed}
 use Rattle.printing.specs.Lines.{rowLines, totalLine, refusedLine}
 use Rattle.printing.specs.Parts.{FitsAt}
 use Rattle.printing.proofs.Lines.{rows-few, total-few, refused-few}
-use Rattle.reporting.specs.Report.{runTableCells, emptyTable, tableReport, roomForAny}
+use Rattle.reporting.specs.Report.{runTableCells, runWorkCells, emptyTable, tableReport, roomForAny}
 use Rattle.reporting.specs.Parts.{planCells, Lent, planReport}
 use Rattle.paging.specs.Overlays.{overlay}
 
@@ -58,7 +58,7 @@ part-long order n h = omega (arith, length-take n order)
 
 module _ (s : Shape) (cells : List ℤ) (sound : Sound s cells) (order table : List ℕ) (o : order ≡ sweepOrder (grown s cells)) (long : length table ≡ runTableCells) where
   -- the cause goes by the table's length alone
-  pub same-cause : runCause s cells order table ≡ runCause s cells (sweepOrder (grown s cells)) emptyTable
+  pub same-cause : runCause s cells order table runWorkCells ≡ runCause s cells (sweepOrder (grown s cells)) emptyTable runWorkCells
   unfolding runCause
   same-cause = rw (o, long, empty-long)
 
@@ -91,8 +91,8 @@ refused-room out cause h = record { fits = omega (arith, refused-few cause) }
 -- no report on a plan is longer
 pub plan-longest : (s : Shape) (cells : List ℤ) → Sound s cells → length (planReport s cells) ≤ roomForAny
 unfolding planReport
-plan-longest s cells sound = go (runCause s cells (sweepOrder (grown s cells)) emptyTable) refl
+plan-longest s cells sound = go (runCause s cells (sweepOrder (grown s cells)) emptyTable runWorkCells) refl
   where
-    go : (cause : ℕ) → runCause s cells (sweepOrder (grown s cells)) emptyTable ≡ cause → length (onCause cause (tableReport s cells) refusedLine) ≤ roomForAny
-    go zero e = lines-fit s cells sound (sweepOrder (grown s cells)) emptyTable refl empty-long _ _ _ (run-holds s cells (sweepOrder (grown s cells)) emptyTable sound (order-passes s cells (sound .passed)) .succeeds .0 e)
+    go : (cause : ℕ) → runCause s cells (sweepOrder (grown s cells)) emptyTable runWorkCells ≡ cause → length (onCause cause (tableReport s cells) refusedLine) ≤ roomForAny
+    go zero e = lines-fit s cells sound (sweepOrder (grown s cells)) emptyTable refl empty-long _ _ _ (run-holds s cells (sweepOrder (grown s cells)) emptyTable runWorkCells sound (order-passes s cells (sound .passed)) (run-passed s cells _ emptyTable runWorkCells e .1) .succeeds .0 e)
     go (suc cause) e = omega (arith, refused-few (suc cause))

@@ -18,39 +18,39 @@ use Rattle.paging.specs.declared.Run.the-variants.{Refused, Done}
 use Rattle.paging.specs.Calls.{runCause, runCall, runTable, runValues}
 use Rattle.paging.specs.Theorems.{rowsIn}
 use Rattle.sweep.proofs.Theorems.{order-passes}
-use Rattle.paging.proofs.Runs.{run-holds}
+use Rattle.paging.proofs.Runs.{run-holds, run-passed}
 use Rattle.printing.specs.Lines.{rowLines, totalLine, refusedLine}
 use Rattle.paging.specs.TableRows.{TableRows}
 use Rattle.paging.proofs.TableRows.{table-rows}
 use Rattle.printing.specs.Parts.{FitsAt}
-use Rattle.reporting.specs.Report.{runTableCells, emptyTable, tableReport, roomForAny}
+use Rattle.reporting.specs.Report.{runTableCells, runWorkCells, emptyTable, tableReport, roomForAny}
 use Rattle.reporting.specs.Parts.{RanInto, planReport}
 use Rattle.reporting.proofs.Reports.{same-cause, lines-fit}
 
 -- ---- the whole run's answers
 abbrev is-done : Run → Bool
 is-done (Refused cause) = false
-is-done (Done rows probes total) = true
+is-done (Done rows probes area ground) = true
 
-module _ (rows probes : ℕ) (total : Total) where
+module _ (rows probes : ℕ) (area total : Total) where
   -- its answer for a cause
   abbrev answered : ℕ → Run
-  answered cause = onCause cause (Done rows probes total) (λ n. Refused n)
+  answered cause = onCause cause (Done rows probes area total) (λ n. Refused n)
 
   -- a refusal has its cause's number
   refusal : {A : Type 0} (printed : A) (line : ℕ → A) (cause c : ℕ) → Refused c ≡ answered cause → onCause cause printed line ≡ line c
   refusal printed line zero c e = clash refl (sym (ap is-done e))
   refusal printed line (suc cause) c e = ap line (sym (ap (λ (r : Run). runValues r .number) e))
 
-  success : (cause r p : ℕ) (t : Total) → Done r p t ≡ answered cause → (cause ≡ 0) × (r ≡ rows) × (p ≡ probes) × (t ≡ total)
-  success zero r p t e =
-      (refl, ap (λ (x : Run). runValues x .rows) e, ap (λ (x : Run). runValues x .probes) e, ap (λ (x : Run). runValues x .area) e)
-  success (suc cause) r p t e = clash (sym (ap is-done e)) refl
+  success : (cause r p : ℕ) (a t : Total) → Done r p a t ≡ answered cause → (cause ≡ 0) × (r ≡ rows) × (p ≡ probes) × (t ≡ total)
+  success zero r p a t e =
+      (refl, ap (λ (x : Run). runValues x .rows) e, ap (λ (x : Run). runValues x .probes) e, ap (λ (x : Run). runValues x .ground) e)
+  success (suc cause) r p a t e = clash (sym (ap is-done e)) refl
 
 -- the run's answer and its table
 pub ran : (s : Shape) (cells : List ℤ) (order lent : List ℕ) (run : Run) (table : List ℕ)
     → Sound s cells → order ≡ sweepOrder (grown s cells) → length lent ≡ runTableCells
-    → run ≡ runCall s cells order lent → table ≡ runTable s cells order lent → RanInto s cells run table
+    → run ≡ runCall s cells order lent runWorkCells → table ≡ runTable s cells order lent runWorkCells → RanInto s cells run table
 ran s cells order lent run table sound o long e f =
     record { sound = sound; lent = lent; long = long; answer = rw o at e; filled = rw o at f }
 
@@ -59,10 +59,10 @@ module _ (s : Shape) (cells : List ℤ) (run : Run) (table : List ℕ) (h : RanI
   pub refused-report : (c : ℕ) → run ≡ Refused c → planReport s cells ≡ refusedLine c
   unfolding runCall planReport
   refused-report c e =
-      refusal _ _ _ (tableReport s cells) refusedLine (runCause s cells (sweepOrder (grown s cells)) emptyTable) c
+      refusal _ _ _ _ (tableReport s cells) refusedLine (runCause s cells (sweepOrder (grown s cells)) emptyTable runWorkCells) c
       (rw (same-cause s cells (h .sound) (sweepOrder (grown s cells)) (h .lent) refl (h .long)) at (sym e ∙ h .answer))
 
-  module _ (rows probes : ℕ) (total : Total) (e : run ≡ Done rows probes total) where
+  module _ (rows probes : ℕ) (area total : Total) (e : run ≡ Done rows probes area total) where
     -- what is printed where it succeeds, and the rows that the table has
     record Told : Type 0 where
       is : planReport s cells ≡ rowLines (layers s cells) (tableOf (sizesOf s) (grown s cells)) ++ totalLine rows probes total
@@ -74,9 +74,9 @@ module _ (s : Shape) (cells : List ℤ) (run : Run) (table : List ℕ) (h : RanI
     told =
         let order = sweepOrder (grown s cells) in
         let lent = h .lent in
-        let d = success _ _ _ (runCause s cells order lent) rows probes total (sym e ∙ h .answer) in
-        let z : runCause s cells order emptyTable ≡ 0 = sym (same-cause s cells (h .sound) order lent refl (h .long)) ∙ d .0 in
-        let r = run-holds s cells order lent (h .sound) (order-passes s cells (h .sound .passed)) in
+        let d = success _ _ _ _ (runCause s cells order lent runWorkCells) rows probes area total (sym e ∙ h .answer) in
+        let z : runCause s cells order emptyTable runWorkCells ≡ 0 = sym (same-cause s cells (h .sound) order lent refl (h .long)) ∙ d .0 in
+        let r = run-holds s cells order lent runWorkCells (h .sound) (order-passes s cells (h .sound .passed)) (run-passed s cells order lent runWorkCells (d .0) .1) in
         record {
           is = rw (z, d .1, d .2, d .3);
           read = rw (h .filled, d .1) (rw (d .0) at (r .rows (d .0)));

@@ -1,9 +1,9 @@
 -- What the report prints, case by case.
 use mathlib.Core.Path.{_≡_, sym, ap, _∙_}
 use mathlib.Core.Logic.{_⊎_, inl, inr}
-use mathlib.Core.List.{List, _++_, map}
-use Prim.Native.Nat.{ℕ, _/_, _≤_, _<_}
-use native.Mathlib.Nat.{div-le-self}
+use mathlib.Core.List.{List, _++_}
+use Prim.Native.Nat.{ℕ, _*_, _/_, _≤_, _<_}
+use native.Mathlib.Nat.{div-le-self, le-trans, mul-le-mul-left, mul-le-mul-right, mul-div-le}
 use native.Mathlib.Omega.{arith}
 use lib.IntN.{ℤ}
 use lib.ListN.{length}
@@ -14,12 +14,13 @@ use Rattle.lists.proofs.Tests.{total}
 use Rattle.plan.specs.declared.Shape.{Shape}
 use Rattle.plan.specs.Limits.{mostCells}
 use Rattle.plan.specs.Plan.{sizesOf, layers, Sound, grown}
-use Rattle.join.specs.Join.{areaIn}
+use Rattle.ground.specs.Union.{unionOf, grounds}
 use Rattle.join.specs.Table.{tableOf}
 use Rattle.walk.specs.Walk.{walkOf}
 use Rattle.paging.specs.Pages.{room}
 use Rattle.paging.specs.Calls.{runCause, runCall}
 use Rattle.sweep.proofs.Theorems.{order-passes}
+use Rattle.plan.proofs.Plan.{checked}
 use Rattle.plan.proofs.Theorems.{plans}
 use Rattle.text.specs.Reader.{readCause, textShape, textCells}
 use Rattle.text.specs.Theorems.{PlanText}
@@ -33,7 +34,6 @@ use Rattle.reporting.specs.Theorems as Theorems
 use Rattle.reporting.proofs.Reports.{empty-long}
 use Rattle.reporting.proofs.Texts.{long-text, refused-text, plan-text, never-longer}
 use Rattle.paging.specs.Overlays.{overlay}
-use Rattle.lists.specs.Lists.{sum}
 
 module _ (s : Shape) (cells : List ℤ) (sound : Sound s cells) where
   -- a table of 12,288 cells takes that many over k rows
@@ -44,10 +44,16 @@ module _ (s : Shape) (cells : List ℤ) (sound : Sound s cells) where
   unfolding planReport runCause
   full-report h = rw (order-passes s cells (sound .passed), rooms, lt-leb (length (tableOf (sizesOf s) (grown s cells))) (12288 / s .k) h)
 
+  -- two cells for each row that the table takes
+  work-fits : length (tableOf (sizesOf s) (grown s cells)) ≤ 12288 / s .k → 2 * length (tableOf (sizesOf s) (grown s cells)) ≤ 12288
+  work-fits h =
+      let n = length (tableOf (sizesOf s) (grown s cells)) in
+      le-trans (mul-le-mul-right n (checked s cells sound .low)) (le-trans (mul-le-mul-left {m = n} {n = 12288 / s .k} (s .k) h) (mul-div-le 12288 (s .k)))
+
   table-report : length (tableOf (sizesOf s) (grown s cells)) ≤ 12288 / s .k
-      → planReport s cells ≡ rowLines (layers s cells) (tableOf (sizesOf s) (grown s cells)) ++ totalLine (length (tableOf (sizesOf s) (grown s cells))) (length (walkOf (sizesOf s) (grown s cells))) (totalOf (sum (map (areaIn (layers s cells)) (tableOf (sizesOf s) (grown s cells)))))
+      → planReport s cells ≡ rowLines (layers s cells) (tableOf (sizesOf s) (grown s cells)) ++ totalLine (length (tableOf (sizesOf s) (grown s cells))) (length (walkOf (sizesOf s) (grown s cells))) (totalOf (unionOf (grounds (layers s cells) (tableOf (sizesOf s) (grown s cells)))))
   unfolding planReport runCause runCall
-  table-report h = rw (order-passes s cells (sound .passed), rooms, le-leb (length (tableOf (sizesOf s) (grown s cells))) (12288 / s .k) h)
+  table-report h = rw (order-passes s cells (sound .passed), rooms, le-leb (length (tableOf (sizesOf s) (grown s cells))) (12288 / s .k) h, le-leb (2 * length (tableOf (sizesOf s) (grown s cells))) 12288 (work-fits h))
 
 -- the text of a plan is accepted, and the report is the plan's
 of-plan : (t : List ℕ) → length t ≤ 65536 → (p : PlanText t) → reportOf t ≡ planReport (p .shape) (p .plan)

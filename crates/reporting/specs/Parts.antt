@@ -12,11 +12,11 @@ use Rattle.sweep.specs.Sweep.{sweepOrder}
 use Rattle.paging.specs.declared.Run.{Run}
 use Rattle.paging.specs.Calls.{runCause, runCall, runTable}
 use Rattle.printing.specs.Lines.{refusedLine}
-use Rattle.reporting.specs.Report.{runTableCells, emptyTable, tableReport}
+use Rattle.reporting.specs.Report.{runTableCells, runWorkCells, emptyTable, tableReport}
 
 -- what is printed for a plan
 unfoldable pub planReport : Shape → List ℤ → List ℕ
-planReport s cells = onCause (runCause s cells (sweepOrder (grown s cells)) emptyTable) (tableReport s cells) refusedLine
+planReport s cells = onCause (runCause s cells (sweepOrder (grown s cells)) emptyTable runWorkCells) (tableReport s cells) refusedLine
 
 -- the first cells, four for each rectangle of a shape
 abbrev pub planCells : Shape → List ℤ → List ℤ
@@ -32,5 +32,5 @@ pub record RanInto (s : Shape) (cells : List ℤ) (run : Run) (table : List ℕ)
   pub sound : Sound s cells
   pub lent : List ℕ
   pub long : length lent ≡ runTableCells
-  pub answer : run ≡ runCall s cells (sweepOrder (grown s cells)) lent
-  pub filled : table ≡ runTable s cells (sweepOrder (grown s cells)) lent
+  pub answer : run ≡ runCall s cells (sweepOrder (grown s cells)) lent runWorkCells
+  pub filled : table ≡ runTable s cells (sweepOrder (grown s cells)) lent runWorkCells

@@ -18,18 +18,22 @@ use Rattle.printing.specs.Lines.{rowLines, totalLine, refusedLine}
 abbrev pub runTableCells : ℕ
 runTableCells = 12288
 
+-- how many cells its work buffer has: enough for any table of that many cells
+abbrev pub runWorkCells : ℕ
+runWorkCells = 12288
+
 -- the table before the run
 unfoldable pub emptyTable : List ℕ
 emptyTable = replicate runTableCells 0
 
--- the lines of all rows, and the total of the whole run in sweep order; printed only where the run is not refused, and its counts are those of these rows
+-- the lines of all rows, and the total of the whole run in sweep order. 02, Q-6: "The TOTAL line's square metres become those of the union"; printed only where the run is not refused, and its counts are those of these rows
 abbrev pub tableReport : Shape → List ℤ → List ℕ
-tableReport s cells = let v = runValues (runCall s cells (sweepOrder (grown s cells)) emptyTable) in rowLines (layers s cells) (tableOf (sizesOf s) (grown s cells)) ++ totalLine (v .rows) (v .probes) (v .area)
+tableReport s cells = let v = runValues (runCall s cells (sweepOrder (grown s cells)) emptyTable runWorkCells) in rowLines (layers s cells) (tableOf (sizesOf s) (grown s cells)) ++ totalLine (v .rows) (v .probes) (v .ground)
 
 -- 13, "input above 65,536 bytes", comes "before all others"; then the reader's causes, where it is lent cells for any plan; then those of the whole run
 unfoldable pub reportCause : List ℕ → ℕ
 reportCause t =
-    unless (leb (length t) 65536) 13 orElse readCause mostCells t orElse runCause (textShape t) (textCells t) (sweepOrder (grown (textShape t) (textCells t))) emptyTable
+    unless (leb (length t) 65536) 13 orElse readCause mostCells t orElse runCause (textShape t) (textCells t) (sweepOrder (grown (textShape t) (textCells t))) emptyTable runWorkCells
 
 -- what is printed for a text
 unfoldable pub reportOf : List ℕ → List ℕ

@@ -31,8 +31,10 @@ ghost use Rattle.reporting.specs.Parts.{planCells, Lent, RanInto, planRe
 // The longest input.
 const LONGEST_INPUT: usize = 65536;
 
-// The cells of the table that the whole run is made into.
+// The cells of the table that the whole run is made into, and of its work buffer: two for each of at most 6,144 rows.
 const RUN_TABLE_CELLS: usize = 12288;
+
+const RUN_WORK_CELLS: usize = 12288;
 
 // What the report program prints for a text, put into a lent buffer that has room for any report; its length.
 pub fn report(text: &[u8], out: &mut [u8; 655360]) -> usize
@@ -163,7 +165,8 @@ fn report_ordered(
     requires { ⌜ Sound shape (now cells) × (now order ≡ sweepOrder (grown shape (now cells))) × (length (now table) ≡ runTableCells) × (roomForAny ≤ length (now out)) ⌝ }
     ensures { λ r. ⌜ Put (now (out .entry)) 0 (planReport shape (now (cells .entry))) (now (out .exit)) r ⌝ }
 {
-    let run = run_all(shape, cells, order, table);
+    let mut work = [0i32; RUN_WORK_CELLS];
+    let run = run_all(shape, cells, order, table, &mut work);
     report_run(run, shape, cells, table, out)
 }
 
@@ -174,8 +177,8 @@ fn report_run(run: Run, shape: Shape, cells: &[i32], table: &[u32], out: &mut [u
 {
     match run {
         Run::Refused(cause) => put_refused(out, 0, cause),
-        Run::Done(rows, probes, total) => {
-            put_grown(out, shape, cells, table, rows, probes, total)
+        Run::Done(rows, probes, _, ground) => {
+            put_grown(out, shape, cells, table, rows, probes, ground)
         }
     }
 }

@@ -1,5 +1,5 @@
 -- Laws of loops over layers: one layer more, and the rectangle of a row there.
-use mathlib.Core.Path.{_≡_, sym, ap, ap₂, _∙_}
+use mathlib.Core.Path.{_≡_, sym, ap, ap₂, _∙_, subst}
 use mathlib.Core.List.{List, [], _∷_}
 use mathlib.Core.Bool.{true}
 use Prim.Native.Nat.{ℕ, suc, _+_, _-_, _*_, _≤_, _<_}
@@ -58,16 +58,19 @@ first-reads sizes cells row f e = next-reads sizes 0 0 (reached-none sizes) (ome
 pub rects-end : (sizes : List ℕ) (cells : List ℤ) (row : List ℕ) (start j : ℕ) → length sizes ≤ j → rectsFrom sizes cells row start j ≡ []
 rects-end sizes cells row start j h = ap (λ (ns : List ℕ). rects (layersOf ns (drop (4 * start) cells)) (drop j row)) (drop-of-length-le sizes h)
 
--- each rectangle of a row holds a point
-pub rects-solid : (ns : List ℕ) (cells : List ℤ) (row : List ℕ) → fits ns row ≡ true → ((k : ℕ) → k < sum ns → inExtent (rectAt cells k) ≡ true)
-    → All (λ r. nonempty r ≡ true) (rects (layersOf ns cells) row)
-rects-solid [] cells row e f = none-left
-rects-solid (n ∷ ns) cells [] e f = none-left
-rects-solid (n ∷ ns) cells (p ∷ row) e f =
+-- what holds of each rectangle in the cells holds of those of a row
+pub rects-all : (P : Rect → Type 0) (ns : List ℕ) (cells : List ℤ) (row : List ℕ) → fits ns row ≡ true → ((k : ℕ) → k < sum ns → P (rectAt cells k)) → All P (rects (layersOf ns cells) row)
+rects-all P [] cells row e f = none-left
+rects-all P (n ∷ ns) cells [] e f = none-left
+rects-all P (n ∷ ns) cells (p ∷ row) e f =
     let h = fits-at (n ∷ ns) (p ∷ row) 0 e (omega arith) in
-    _and_
-    (held-nonempty extent _ (ap inExtent (rect-take cells n p h) ∙ f p (omega arith)))
-    (rects-solid ns (drop (4 * n) cells) row (both (ltb p n) (fits ns row) e .1) (λ k l. ap inExtent (later k) ∙ f (n + k) (omega arith)))
+    _and_ (subst P (sym (rect-take cells n p h)) (f p (omega arith)))
+    (rects-all P ns (drop (4 * n) cells) row (both (ltb p n) (fits ns row) e .1) (λ k l. subst P (sym (later k)) (f (n + k) (omega arith))))
   where
     later : (k : ℕ) → rectAt (drop (4 * n) cells) k ≡ rectAt cells (n + k)
     later k = let q : n + k - n ≡ k = omega arith in ap (rectAt (drop (4 * n) cells)) (sym q) ∙ rect-drop cells n (n + k) (omega arith)
+
+-- each rectangle of a row holds a point
+pub rects-solid : (ns : List ℕ) (cells : List ℤ) (row : List ℕ) → fits ns row ≡ true → ((k : ℕ) → k < sum ns → inExtent (rectAt cells k) ≡ true)
+    → All (λ r. nonempty r ≡ true) (rects (layersOf ns cells) row)
+rects-solid ns cells row e f = rects-all (λ r. nonempty r ≡ true) ns cells row e (λ k h. held-nonempty extent _ (f k h))

@@ -9,46 +9,46 @@ use Rattle.lists.proofs.Tests.{clash}
 use Rattle.totals.specs.declared.Total.{Total}
 use Rattle.plan.specs.declared.Shape.{Shape}
 use Rattle.plan.specs.Plan.{layers, sizesOf, Typed, Sound, grown}
-use Rattle.plan.proofs.Plan.{or-else-zero}
-use Rattle.sweep.specs.Sweep.{orderCause}
 use Rattle.join.specs.Table.{tableOf}
 use Rattle.crossings.specs.ClassCall.{crossingCause, classCounts}
 use Rattle.crossings.proofs.Answers.{cause-sound, cause-three}
 use Rattle.paging.specs.declared.Run.{Run}
 use Rattle.paging.specs.declared.Run.the-variants.{Refused, Done}
 use Rattle.paging.specs.declared.CrossingReport.{CrossingReport}
-use Rattle.paging.specs.Calls.{runCause, runCall, runTable, runValues, crossingRunCause, crossingCall, crossingTable}
+use Rattle.paging.specs.Calls.{runCause, runCall, runTable, runValues, crossingRunCause, crossingCall, crossingTable, WorkAfter}
 use Rattle.paging.specs.Theorems.{rowsIn}
 use Rattle.paging.specs.TableRows.{TableRows}
 use Rattle.paging.proofs.TableRows.{table-rows}
-use Rattle.paging.proofs.Runs.{run-holds, crossing-table}
+use Rattle.paging.proofs.Runs.{run-holds, run-passed, crossing-cause, crossing-table}
 use Rattle.tally.specs.Parts.{RanInto, refusedReport, reportOn}
 
 -- the promise of the report
-abbrev pub Reported : Shape → List ℤ → (order table : List ℕ) → CrossingReport → List ℕ → Type 0
-Reported s cells order table r after =
-    (r ≡ crossingCall s cells order table) × (after ≡ crossingTable s cells order table)
+abbrev pub Reported : Shape → List ℤ → (order table : List ℕ) (work : List ℤ) → CrossingReport → List ℕ → List ℤ → Type 0
+Reported s cells order table work r after free =
+    (r ≡ crossingCall s cells order table (length work)) × ((after ≡ crossingTable s cells order table (length work)) × WorkAfter (crossingRunCause s cells order table (length work)) work free)
 
 -- a refusal by the checks 1 to 4, 17, 15 and 16
-pub report-refused : (s : Shape) (cells : List ℤ) (order table : List ℕ) (n : ℕ) → n ≡ crossingCause s cells → (n ≡ 0 → ⊥) → (r : CrossingReport) → r ≡ refusedReport n → Reported s cells order table r table
+pub report-refused : (s : Shape) (cells : List ℤ) (order table : List ℕ) (work : List ℤ) (n : ℕ) → n ≡ crossingCause s cells → (n ≡ 0 → ⊥) → (r : CrossingReport) → r ≡ refusedReport n → Reported s cells order table work r table work
 unfolding crossingCall crossingTable crossingRunCause
-report-refused s cells order table zero e h r q = absurd (h refl)
-report-refused s cells order table (suc n) e h r q = rw (← e) (q, refl)
+report-refused s cells order table work zero e h r q = absurd (h refl)
+report-refused s cells order table work (suc n) e h r q = rw (← e) (q, (refl, record { long = refl; kept = λ x. refl }))
 
 -- a run
-pub report-made : (s : Shape) (cells : List ℤ) (order table : List ℕ) → crossingCause s cells ≡ 0 → (run : Run) → run ≡ runCall s cells order table
-    → (r : CrossingReport) → r ≡ reportOn s cells run → (after : List ℕ) → after ≡ runTable s cells order table → Reported s cells order table r after
+pub report-made : (s : Shape) (cells : List ℤ) (order table : List ℕ) (work : List ℤ) → crossingCause s cells ≡ 0 → (run : Run) → run ≡ runCall s cells order table (length work)
+    → (r : CrossingReport) → r ≡ reportOn s cells run → (after : List ℕ) → after ≡ runTable s cells order table (length work)
+    → (free : List ℤ) → WorkAfter (runCause s cells order table (length work)) work free → Reported s cells order table work r after free
 unfolding crossingCall crossingRunCause runCall
-report-made s cells order table passed run e r q after f = (q ∙ ap (reportOn s cells) e ∙ go (runCause s cells order table) refl, f ∙ sym (crossing-table s cells order table passed))
+report-made s cells order table work passed run e r q after f free w =
+    (q ∙ ap (reportOn s cells) e ∙ go (runCause s cells order table (length work)) refl, (f ∙ sym (crossing-table s cells order table (length work) passed), subst (λ (c : ℕ). WorkAfter c work free) (sym (crossing-cause s cells order table (length work) passed)) w))
   where
-    go : (c : ℕ) → runCause s cells order table ≡ c → reportOn s cells (runCall s cells order table) ≡ crossingCall s cells order table
+    go : (c : ℕ) → runCause s cells order table (length work) ≡ c → reportOn s cells (runCall s cells order table (length work)) ≡ crossingCall s cells order table (length work)
     go zero z = rw (passed, z)
     go (suc c) z = rw (passed, z)
 
-pub ran-into : (s : Shape) (cells : List ℤ) (order lent : List ℕ) (run : Run) (table : List ℕ) → Typed s → crossingCause s cells ≡ 0
-    → run ≡ runCall s cells order lent → table ≡ runTable s cells order lent → RanInto s cells run table
-ran-into s cells order lent run table t p e f =
-    record { sound = cause-sound s cells t p; passed = p; order = order; lent = lent; answer = e; filled = f }
+pub ran-into : (s : Shape) (cells : List ℤ) (order lent : List ℕ) (work : ℕ) (run : Run) (table : List ℕ) → Typed s → crossingCause s cells ≡ 0
+    → run ≡ runCall s cells order lent work → table ≡ runTable s cells order lent work → RanInto s cells run table
+ran-into s cells order lent work run table t p e f =
+    record { sound = cause-sound s cells t p; passed = p; order = order; lent = lent; work = work; answer = e; filled = f }
 
 -- ---- a run that was refused
 pub refused-on : (s : Shape) (cells : List ℤ) (run : Run) (n : ℕ) → run ≡ Refused n → (r : CrossingReport) → r ≡ refusedReport n → r ≡ reportOn s cells run
@@ -57,21 +57,21 @@ refused-on s cells run n e r q = q ∙ rw e
 -- ---- a run that succeeded
 abbrev is-done : Run → Bool
 is-done (Refused cause) = false
-is-done (Done rows probes area) = true
+is-done (Done rows probes area ground) = true
 
-module _ (s : Shape) (cells : List ℤ) (run : Run) (table : List ℕ) (h : RanInto s cells run table) (rows probes : ℕ) (area : Total) (e : run ≡ Done rows probes area) where
-  accepted : (c : ℕ) → runCause s cells (h .order) (h .lent) ≡ c → runCause s cells (h .order) (h .lent) ≡ 0
+module _ (s : Shape) (cells : List ℤ) (run : Run) (table : List ℕ) (h : RanInto s cells run table) (rows probes : ℕ) (area ground : Total) (e : run ≡ Done rows probes area ground) where
+  accepted : (c : ℕ) → runCause s cells (h .order) (h .lent) (h .work) ≡ c → runCause s cells (h .order) (h .lent) (h .work) ≡ 0
   unfolding runCall
   accepted zero z = z
   accepted (suc c) z = clash refl (ap is-done (sym e ∙ h .answer) ∙ rw z)
 
   -- its table has the rows of the join
   done-read : rowsIn (s .k) rows table ≡ tableOf (sizesOf s) (grown s cells)
-  unfolding runCause
   done-read =
-      let z = accepted (runCause s cells (h .order) (h .lent)) refl in
-      let r = run-holds s cells (h .order) (h .lent) (h .sound) (or-else-zero (orderCause s cells (h .order)) _ z .0) in
-      rw (h .filled) (subst (λ (v : Run). rowsIn (s .k) (runValues v .rows) (runTable s cells (h .order) (h .lent)) ≡ tableOf (sizesOf s) (grown s cells)) (sym (h .answer) ∙ e) (r .rows z))
+      let z = accepted (runCause s cells (h .order) (h .lent) (h .work)) refl in
+      let q = run-passed s cells (h .order) (h .lent) (h .work) z in
+      let r = run-holds s cells (h .order) (h .lent) (h .work) (h .sound) (q .0) (q .1) in
+      rw (h .filled) (subst (λ (v : Run). rowsIn (s .k) (runValues v .rows) (runTable s cells (h .order) (h .lent) (h .work)) ≡ tableOf (sizesOf s) (grown s cells)) (sym (h .answer) ∙ e) (r .rows z))
 
   pub done-rows : TableRows (s .sizes) (s .k) (grown s cells) table rows
   done-rows = table-rows s cells table rows (h .sound) done-read
@@ -79,5 +79,5 @@ module _ (s : Shape) (cells : List ℤ) (run : Run) (table : List ℕ) (h : RanI
   pub done-three : 3 ≤ s .k
   done-three = cause-three s cells (h .passed)
 
-  pub done-report : (counts : List ℕ) → counts ≡ classCounts (layers s cells) (rowsIn (s .k) rows table) → record { run = Done rows probes area; counts = counts } ≡ reportOn s cells run
+  pub done-report : (counts : List ℕ) → counts ≡ classCounts (layers s cells) (rowsIn (s .k) rows table) → record { run = Done rows probes area ground; counts = counts } ≡ reportOn s cells run
   done-report counts q = rw (e, q, done-read)

@@ -19,8 +19,9 @@ pub record RanInto (s : Shape) (cells : List ℤ) (run : Run) (table : List ℕ)
   pub passed : crossingCause s cells ≡ 0
   pub order : List ℕ
   pub lent : List ℕ
-  pub answer : run ≡ runCall s cells order lent
-  pub filled : table ≡ runTable s cells order lent
+  pub work : ℕ
+  pub answer : run ≡ runCall s cells order lent work
+  pub filled : table ≡ runTable s cells order lent work
 
 abbrev pub refusedReport : ℕ → CrossingReport
 refusedReport cause = record { run = Refused cause; counts = replicate 17 0 }
@@ -28,4 +29,4 @@ refusedReport cause = record { run = Refused cause; counts = replicate 17 0 }
 -- the report on a run's answer
 abbrev pub reportOn : Shape → List ℤ → Run → CrossingReport
 reportOn s cells (Refused cause) = refusedReport cause
-reportOn s cells (Done rows probes area) = record { run = Done rows probes area; counts = classCounts (layers s cells) (overlay s cells .table) }
+reportOn s cells (Done rows probes area ground) = record { run = Done rows probes area ground; counts = classCounts (layers s cells) (overlay s cells .table) }

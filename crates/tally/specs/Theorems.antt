@@ -22,17 +22,18 @@ pub record Counts (s : Shape) (cells : List ℤ) (counts : List ℕ) : Type 0 wh
   -- 02: "The counts add up to the rows of the join."
   pub sum : sum counts ≡ length (tableOf (sizesOf s) (grown s cells))
 
-pub record CrossingReports (s : Shape) (cells : List ℤ) (order table : List ℕ) : Type 0 where
+pub record CrossingReports (s : Shape) (cells : List ℤ) (order table : List ℕ) (work : ℕ) : Type 0 where
   -- each cause applies in exactly the stated case: the class call's first, then the whole run's
-  pub none : (crossingRunCause s cells order table ≡ 0) ↔ ((crossingCause s cells ≡ 0) × (runCause s cells order table ≡ 0))
-  pub earlier : (n : ℕ) → 0 < n → (n ≡ 5 → ⊥) → (n ≡ 7 → ⊥) → (crossingRunCause s cells order table ≡ n) ↔ (crossingCause s cells ≡ n)
-  pub five : (crossingRunCause s cells order table ≡ 5) ↔ ((crossingCause s cells ≡ 0) × (orderCause s cells order ≡ 5))
-  pub seven : (crossingRunCause s cells order table ≡ 7) ↔ ((crossingCause s cells ≡ 0) × (runCause s cells order table ≡ 7))
+  pub none : (crossingRunCause s cells order table work ≡ 0) ↔ ((crossingCause s cells ≡ 0) × (runCause s cells order table work ≡ 0))
+  pub earlier : (n : ℕ) → 0 < n → (n ≡ 5 → ⊥) → (n ≡ 7 → ⊥) → (n ≡ 19 → ⊥) → (crossingRunCause s cells order table work ≡ n) ↔ (crossingCause s cells ≡ n)
+  pub five : (crossingRunCause s cells order table work ≡ 5) ↔ ((crossingCause s cells ≡ 0) × (orderCause s cells order ≡ 5))
+  pub seven : (crossingRunCause s cells order table work ≡ 7) ↔ ((crossingCause s cells ≡ 0) × (runCause s cells order table work ≡ 7))
+  pub nineteen : (crossingRunCause s cells order table work ≡ 19) ↔ ((crossingCause s cells ≡ 0) × (runCause s cells order table work ≡ 19))
   -- it is the whole run, with the counts
-  pub run : crossingRunCause s cells order table ≡ 0 → (crossingCall s cells order table .run ≡ runCall s cells order table) × Counts s cells (crossingCall s cells order table .counts) × (crossingTable s cells order table ≡ runTable s cells order table)
+  pub run : crossingRunCause s cells order table work ≡ 0 → (crossingCall s cells order table work .run ≡ runCall s cells order table work) × Counts s cells (crossingCall s cells order table work .counts) × (crossingTable s cells order table work ≡ runTable s cells order table work)
   -- a refusal: its number, seventeen times 0, the table as it was
-  pub refused : (n : ℕ) → crossingRunCause s cells order table ≡ suc n
-      → (crossingCall s cells order table ≡ record { run = Refused (suc n); counts = 0 ∷ 0 ∷ 0 ∷ 0 ∷ 0 ∷ 0 ∷ 0 ∷ 0 ∷ 0 ∷ 0 ∷ 0 ∷ 0 ∷ 0 ∷ 0 ∷ 0 ∷ 0 ∷ 0 ∷ [] }) × (crossingTable s cells order table ≡ table)
+  pub refused : (n : ℕ) → crossingRunCause s cells order table work ≡ suc n
+      → (crossingCall s cells order table work ≡ record { run = Refused (suc n); counts = 0 ∷ 0 ∷ 0 ∷ 0 ∷ 0 ∷ 0 ∷ 0 ∷ 0 ∷ 0 ∷ 0 ∷ 0 ∷ 0 ∷ 0 ∷ 0 ∷ 0 ∷ 0 ∷ 0 ∷ [] }) × (crossingTable s cells order table work ≡ table)
 
 pub record Tallies : Type 0 where
-  pub reports : (s : Shape) (cells : List ℤ) (order table : List ℕ) → Typed s → CrossingReports s cells order table
+  pub reports : (s : Shape) (cells : List ℤ) (order table : List ℕ) (work : ℕ) → Typed s → CrossingReports s cells order table work

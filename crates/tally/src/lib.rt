@@ -10,12 +10,12 @@ use plan::grow_plan;
 use rows::row_at;
 ghost use mathlib.Core.Path.{_≡_};
 ghost use Prim.Native.Nat.{_≤_};
-ghost use lib.ListN.{take};
+ghost use lib.ListN.{length, take};
 ghost use Rattle.plan.specs.Plan.{layersOf, grown, layers, Sound};
 ghost use Rattle.crossings.specs.ClassCall.{classCounts};
 ghost use Rattle.paging.specs.Theorems.{rowsIn};
 ghost use Rattle.paging.specs.TableRows.{TableRows};
-ghost use Rattle.paging.specs.Calls.{crossingCall, crossingTable};
+ghost use Rattle.paging.specs.Calls.{crossingRunCause, crossingCall, crossingTable, WorkAfter};
 ghost use Rattle.tally.specs.Parts.{RanInto, refusedReport, reportOn};
 
 // All rows of a plan's table into a lent table, if they fit, and how many fall in each class.
@@ -24,15 +24,17 @@ pub fn crossing_report(
     cells: &[i32],
     order: &[u32],
     table: &mut [u32],
+    work: &mut [i32],
 ) -> CrossingReport
-    ensures answer { λ r. ⌜ r ≡ crossingCall shape (now (cells .entry)) (now (order .entry)) (now (table .entry)) ⌝ }
-    ensures table { λ _. ⌜ now (table .exit) ≡ crossingTable shape (now (cells .entry)) (now (order .entry)) (now (table .entry)) ⌝ }
+    ensures answer { λ r. ⌜ r ≡ crossingCall shape (now (cells .entry)) (now (order .entry)) (now (table .entry)) (length (now (work .entry))) ⌝ }
+    ensures table { λ _. ⌜ now (table .exit) ≡ crossingTable shape (now (cells .entry)) (now (order .entry)) (now (table .entry)) (length (now (work .entry))) ⌝ }
+    ensures work { λ _. ⌜ WorkAfter (crossingRunCause shape (now (cells .entry)) (now (order .entry)) (now (table .entry)) (length (now (work .entry)))) (now (work .entry)) (now (work .exit)) ⌝ }
 {
     let cause = crossing_cause(shape, cells);
     if cause != 0 {
         return refused_report(cause);
     }
-    let run = run_all(shape, cells, order, table);
+    let run = run_all(shape, cells, order, table, work);
     report_on(run, shape, cells, table)
 }
 
@@ -52,10 +54,10 @@ fn report_on(run: Run, shape: Shape, cells: &[i32], table: &[u32]) -> CrossingRe
 {
     match run {
         Run::Refused(cause) => refused_report(cause),
-        Run::Done(rows, probes, area) => {
+        Run::Done(rows, probes, area, ground) => {
             let counts = count_grown(shape, cells, table, rows);
             CrossingReport {
-                run: Run::Done(rows, probes, area),
+                run: Run::Done(rows, probes, area, ground),
                 counts,
             }
         }

@@ -19,12 +19,16 @@ run-number-requires c κs = search needs
 same-length : tie.Need-same-length
 same-length c = search needs
 
+same-length-2 : tie.Need-same-length-2
+same-length-2 c = search needs
+
 returns : tie.Need-returns
 returns c =
-    let report = c .before .before .before .before .before .crossing-report .ensures in
+    let k : tie.After-crossing-report = search needs in
+    let report = k .crossing-report .ensures in
     (c .run-number .ensures ∙ ap (λ (r : CrossingReport). runValues (r .run) .number) (report .0), (c .before .run-cells .ensures ∙ ap (λ (r : CrossingReport). runCells (runValues (r .run))) (report .0), (ap (λ (r : CrossingReport). r .counts) (report .0), report .1)))
 
 pub overlay-crossing-report-spec : {M : Type 1} → statement M
 overlay-crossing-report-spec =
     tie.close
-    (tie.spec crossing-report-requires run-cells-requires run-number-requires same-length returns)
+    (tie.spec crossing-report-requires run-cells-requires run-number-requires same-length same-length-2 returns)

@@ -19,12 +19,16 @@ run-number-requires c κs = search needs
 same-length : tie.Need-same-length
 same-length c = search needs
 
+same-length-2 : tie.Need-same-length-2
+same-length-2 c = search needs
+
 returns : tie.Need-returns
 returns c =
-    let run = c .before .before .before .before .run-all .ensures in
+    let k : tie.After-run-all = search needs in
+    let run = k .run-all .ensures in
     (c .run-number .ensures ∙ ap (λ (r : Run). runValues r .number) (run .0), (c .before .run-cells .ensures ∙ ap (λ (r : Run). runCells (runValues r)) (run .0), run .1))
 
 pub overlay-run-all-spec : {M : Type 1} → statement M
 overlay-run-all-spec =
     tie.close
-    (tie.spec run-all-requires run-cells-requires run-number-requires same-length returns)
+    (tie.spec run-all-requires run-cells-requires run-number-requires same-length same-length-2 returns)

@@ -4,6 +4,9 @@ use Rattle.reporting.proofs.Runs.{ran}
 use Rattle.reporting.proofs.report_ordered.Statement.{statement}
 use Rattle.reporting.proofs.report_ordered.Tie as tie
 
+slice-aggregate-run-all : tie.Need-slice-aggregate-run-all
+slice-aggregate-run-all c = search needs
+
 run-all-requires : tie.Need-run-all-requires
 run-all-requires c κs = search needs
 
@@ -20,4 +23,4 @@ returns : tie.Need-returns
 returns c = search needs
 
 pub report-ordered-spec : {M : Type 1} → statement M
-report-ordered-spec = tie.close (tie.spec run-all-requires report-run-requires same-length same-length-2 returns)
+report-ordered-spec = tie.close (tie.spec slice-aggregate-run-all run-all-requires report-run-requires same-length same-length-2 returns)

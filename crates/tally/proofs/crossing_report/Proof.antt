@@ -20,28 +20,39 @@ refused-report-requires : tie.Need-refused-report-requires
 refused-report-requires c κs = search needs
 
 returns : tie.Need-returns
-returns c = let a = c .before .before .before .before .before .args in report-refused (a .shape) (a .cells .now) (a .order .now) (a .table .now) _ (c .before .before .crossing-cause .ensures) (c .before .if1 .taken) _ (c .refused-report .ensures)
+returns c =
+    let s : tie.Start = search needs in
+    let k : tie.After-crossing-cause = search needs in
+    let e : tie.Then1 = search needs in
+    let a = s .args in
+    report-refused (a .shape) (a .cells .now) (a .order .now) (a .table .now) (a .work .now) _ (k .crossing-cause .ensures) (e .if1 .taken) _ (c .refused-report .ensures)
 
 run-all-requires : tie.Need-run-all-requires
 run-all-requires c κs = search needs
 
 report-on-requires : tie.Need-report-on-requires
 report-on-requires c κs =
-    let e = c .before .before .before .before .before in
-    let s = e .before .before .before .before in
+    let s : tie.Start = search needs in
+    let e : tie.Else1 = search needs in
+    let k : tie.After-run-all = search needs in
     let a = s .args in
-    let r = c .before .before .before .run-all .ensures in
-    ran-into (a .shape) (a .cells .now) (a .order .now) (a .table .now) _ _ (typed s) (passed e) (r .0) (r .1)
+    let r = k .run-all .ensures in
+    ran-into (a .shape) (a .cells .now) (a .order .now) (a .table .now) _ _ _ (typed s) (passed e) (r .0) (r .1 .0)
 
 same-length : tie.Need-same-length
 same-length c = search needs
 
+same-length-2 : tie.Need-same-length-2
+same-length-2 c = search needs
+
 returns-2 : tie.Need-returns-2
 returns-2 c =
-    let e = c .before .before .before .before .before .before in
-    let a = e .before .before .before .before .args in
-    let r = c .before .before .before .before .run-all .ensures in
-    report-made (a .shape) (a .cells .now) (a .order .now) (a .table .now) (passed e) _ (r .0) _ (c .report-on .ensures) _ (r .1)
+    let s : tie.Start = search needs in
+    let e : tie.Else1 = search needs in
+    let k : tie.After-run-all = search needs in
+    let a = s .args in
+    let r = k .run-all .ensures in
+    report-made (a .shape) (a .cells .now) (a .order .now) (a .table .now) (a .work .now) (passed e) _ (r .0) _ (c .report-on .ensures) _ (r .1 .0) _ (r .1 .1)
 
 pub crossing-report-spec : {M : Type 1} → statement M
 crossing-report-spec =
@@ -53,4 +64,5 @@ crossing-report-spec =
     run-all-requires
     report-on-requires
     same-length
+    same-length-2
     returns-2)

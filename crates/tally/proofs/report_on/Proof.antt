@@ -19,7 +19,7 @@ count-grown-requires c κs =
     let a = s .args in
     let r : tie.After-run2 = search needs in
     let e = r .run2 .given .1 in
-    ((s .pre .sound, done-rows (a .shape) (a .cells .now) (a .run) (a .table .now) (s .pre) _ _ _ e), done-three (a .shape) (a .cells .now) (a .run) (a .table .now) (s .pre) _ _ _ e)
+    ((s .pre .sound, done-rows (a .shape) (a .cells .now) (a .run) (a .table .now) (s .pre) _ _ _ _ e), done-three (a .shape) (a .cells .now) (a .run) (a .table .now) (s .pre) _ _ _ _ e)
 
 returns : tie.Need-returns
 returns c = let a = c .before .before .before .before .before .args in refused-on (a .shape) (a .cells .now) (a .run) _ (c .before .before .run .given .1) _ (c .refused-report .ensures)
@@ -29,7 +29,7 @@ returns-2 c =
     let s : tie.Start = search needs in
     let r : tie.After-run2 = search needs in
     let a = s .args in
-    done-report (a .shape) (a .cells .now) (a .run) (a .table .now) (s .pre) _ _ _ (r .run2 .given .1) _ (c .count-grown .ensures)
+    done-report (a .shape) (a .cells .now) (a .run) (a .table .now) (s .pre) _ _ _ _ (r .run2 .given .1) _ (c .count-grown .ensures)
 
 pub report-on-spec : {M : Type 1} → statement M
 report-on-spec =

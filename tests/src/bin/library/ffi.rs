@@ -99,6 +99,8 @@ extern "C" {
         order_length: usize,
         table: *mut u32,
         table_length: usize,
+        work: *mut i32,
+        work_length: usize,
         answer: *mut u64,
     ) -> u32;
     fn overlay_row_class(
@@ -121,6 +123,8 @@ extern "C" {
         order_length: usize,
         table: *mut u32,
         table_length: usize,
+        work: *mut i32,
+        work_length: usize,
         answer: *mut u64,
         counts: *mut u32,
     ) -> u32;
@@ -179,6 +183,12 @@ fn ticket_in(cells: &Cells) -> Ticket {
 /// A number that fits 32 bits.
 fn small(cell: u64) -> u32 {
     u32::try_from(cell).expect("an answer of 32 bits")
+}
+
+/// A whole run's number and answer.
+fn run_of(number: u32, answer: [u64; 4]) -> Run {
+    let [rows, trials, area, ground] = answer;
+    Run { number, rows: small(rows), trials, area, ground }
 }
 
 /// The stop for a number of a cause and the first cell of an answer.
@@ -386,8 +396,8 @@ impl Overlay for Library {
         }
     }
 
-    fn run(&self, shape: &Shape, cells: &[i32], order: &[u32], table: &mut [u32]) -> Run {
-        let mut answer = [UNWRITTEN; 3];
+    fn run(&self, shape: &Shape, cells: &[i32], order: &[u32], table: &mut [u32], work: &mut [i32]) -> Run {
+        let mut answer = [UNWRITTEN; 4];
         // SAFETY: every pointer comes from a reference, with its length; those written to are exclusive.
         let number = unsafe {
             overlay_run_all(
@@ -400,10 +410,12 @@ impl Overlay for Library {
                 order.len(),
                 table.as_mut_ptr(),
                 table.len(),
+                work.as_mut_ptr(),
+                work.len(),
                 answer.as_mut_ptr(),
             )
         };
-        Run { number, rows: small(answer[0]), trials: answer[1], area: answer[2] }
+        run_of(number, answer)
     }
 
     fn read(&self, text: &[u8], cells: &mut [i32]) -> Reading {
@@ -462,8 +474,15 @@ impl Crossings for Library {
         ClassTold { number, class }
     }
 
-    fn report(&self, shape: &Shape, cells: &[i32], order: &[u32], table: &mut [u32]) -> Report {
-        let (mut answer, mut counts) = ([UNWRITTEN; 3], [UNWRITTEN as u32; 17]);
+    fn report(
+        &self,
+        shape: &Shape,
+        cells: &[i32],
+        order: &[u32],
+        table: &mut [u32],
+        work: &mut [i32],
+    ) -> Report {
+        let (mut answer, mut counts) = ([UNWRITTEN; 4], [UNWRITTEN as u32; 17]);
         // SAFETY: every pointer comes from a reference, with its length; those written to are exclusive.
         let number = unsafe {
             overlay_crossing_report(
@@ -476,10 +495,12 @@ impl Crossings for Library {
                 order.len(),
                 table.as_mut_ptr(),
                 table.len(),
+                work.as_mut_ptr(),
+                work.len(),
                 answer.as_mut_ptr(),
                 counts.as_mut_ptr(),
             )
         };
-        Report { run: Run { number, rows: small(answer[0]), trials: answer[1], area: answer[2] }, counts }
+        Report { run: run_of(number, answer), counts }
     }
 }

@@ -1,0 +1,5 @@
+pub mod Sums
+pub mod Slabs
+pub mod Union
+pub mod Tables
+pub mod Theorems

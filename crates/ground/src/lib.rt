@@ -1,0 +1,1 @@
+// Ground counted once: the union of rectangles. Specifications and proofs only; no code.

@@ -1,0 +1,12 @@
+pub mod Places
+pub mod Shifts
+pub mod Inserts
+pub mod Strips
+pub mod Covers
+pub mod Spans
+pub mod Reach
+pub mod Lines
+pub mod Counting
+pub mod Known
+pub mod Putting
+pub mod Tables
