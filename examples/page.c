@@ -26,10 +26,11 @@ struct plan {
     size_t order_length;
 };
 
-/* A row: its places, its guard's layer and its area. */
+/* A row: its places, its guard's layer and its area, its common ground and the kind of it. */
 struct row {
     uint32_t places[6];
     uint64_t answer[OVERLAY_ROW_CELLS];
+    int32_t common[OVERLAY_COMMON_CELLS];
 };
 
 /* What all pages brought, and the ground of all rows counted once. */
@@ -64,6 +65,10 @@ static uint32_t take_rows(const struct plan *plan, const uint32_t *page, uint64_
         memcpy(row->places, page + i * plan->k, plan->k * sizeof *page);
         uint32_t cause = overlay_row(plan->k, plan->sizes, plan->margins, plan->cells, plan->cells_length,
                                      row->places, plan->k, row->answer);
+        if (cause != OVERLAY_CAUSE_NONE)
+            return cause;
+        cause = overlay_row_common(plan->k, plan->sizes, plan->margins, plan->cells, plan->cells_length,
+                                   row->places, plan->k, row->common);
         if (cause != OVERLAY_CAUSE_NONE)
             return cause;
     }
@@ -113,7 +118,7 @@ static void print_table(uint32_t k, const struct table *table)
         printf("ROW\t%" PRIu64, row->answer[OVERLAY_ROW_LAYER]);
         for (uint32_t layer = 0; layer < k; layer++)
             printf("\t%" PRIu32, row->places[layer]);
-        printf("\t%" PRIu64 "\n", row->answer[OVERLAY_ROW_AREA]);
+        printf("\t%" PRIu64 "\t%c\n", row->answer[OVERLAY_ROW_AREA], (char)row->common[OVERLAY_COMMON_KIND]);
     }
     uint64_t hundredths = (table->ground + 5000) / 10000;
     printf("TOTAL\t%" PRIu64 "\t%" PRIu64 "\t%" PRIu64 ".%02" PRIu64 "\n", table->count, table->probes,

@@ -23,7 +23,7 @@
 #include <stdint.h>
 
 /* The version of this interface: another one where a declaration, a number or the order of cells is another, or one comes. */
-#define OVERLAY_VERSION 8
+#define OVERLAY_VERSION 9
 
 /* The largest plan: layers, rectangles, cells, a layer's margin in millimetres, and the bytes of the longest text, which is proved. So much is enough
  * for every plan. */
@@ -102,6 +102,24 @@ enum {
 /* The cells of a row's answer: the guard's layer, from 1, and the area in square millimetres. */
 enum { OVERLAY_ROW_LAYER = 0, OVERLAY_ROW_AREA = 1, OVERLAY_ROW_CELLS = 2 };
 
+/* The cells of a row's common ground: its sides in millimetres and its kind. */
+enum {
+    OVERLAY_COMMON_LEFT = 0,
+    OVERLAY_COMMON_BOTTOM = 1,
+    OVERLAY_COMMON_RIGHT = 2,
+    OVERLAY_COMMON_TOP = 3,
+    OVERLAY_COMMON_KIND = 4,
+    OVERLAY_COMMON_CELLS = 5
+};
+
+/* The kind of a row's common ground, a letter. */
+enum overlay_kind {
+    OVERLAY_KIND_NO_ROW = 0,   /* the places name no row, which is no refusal */
+    OVERLAY_KIND_GROUND = 'G', /* both sides are above 0 */
+    OVERLAY_KIND_EDGE = 'E',   /* exactly one side is 0: they touch along an edge */
+    OVERLAY_KIND_POINT = 'P'   /* both sides are 0: they touch in a point */
+};
+
 /* Classes of a row. Class 4(i - 1) + 1 is the left end in the rectangle of layer i, + 2 the right end, + 3 the bottom end, + 4 the top end. */
 enum {
     OVERLAY_CLASS_CROSSED = 0, /* both segments cross every rectangle of layers 1 to k - 2 */
@@ -158,6 +176,11 @@ uint32_t overlay_order_cause(uint32_t k, const uint32_t sizes[6], const uint32_t
 /* What places name in the table of a plan: layer 0 and area 0 where they are no row, which is no refusal. Tells 1, 2, 17, 3 and 4. */
 uint32_t overlay_row(uint32_t k, const uint32_t sizes[6], const uint32_t margins[6], const int32_t *cells,
                      size_t cells_length, const uint32_t *places, size_t places_length, uint64_t answer[2]);
+
+/* The common ground of the row that places name in the table of a plan, and its kind: all cells 0 where they are no row, which is no refusal. Tells 1, 2,
+ * 17, 3 and 4. */
+uint32_t overlay_row_common(uint32_t k, const uint32_t sizes[6], const uint32_t margins[6], const int32_t *cells,
+                            size_t cells_length, const uint32_t *places, size_t places_length, int32_t answer[5]);
 
 /* What lies nearest to a box (left, bottom, right, top) in each layer. Tells 1, 2, 17, 3, 4 and 14. */
 uint32_t overlay_nearest(uint32_t k, const uint32_t sizes[6], const uint32_t margins[6], const int32_t *cells,

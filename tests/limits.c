@@ -32,6 +32,12 @@ static uint32_t row(void)
     uint64_t answer[OVERLAY_ROW_CELLS];
     return overlay_row(k, sizes, margins, cells, OVERLAY_MOST_CELLS, table, k, answer);
 }
+static uint32_t row_common(void)
+{
+    int32_t answer[OVERLAY_COMMON_CELLS];
+    return overlay_row_common(k, sizes, margins, cells, OVERLAY_MOST_CELLS, table, k, answer) ||
+           answer[OVERLAY_COMMON_KIND] == OVERLAY_KIND_NO_ROW;
+}
 static uint32_t nearest(void)
 {
     static const int32_t around[4] = {0, 0, 1, 1};
@@ -101,11 +107,11 @@ static uint32_t cover_records(void)
 static const struct {
     const char *name;
     uint32_t (*call)(void);
-} calls[] = {{"plan_cause", plan_cause}, {"make_order", make_order},     {"order_cause", order_cause},
-             {"row", row},               {"nearest", nearest},           {"apart_pair", apart_pair},
-             {"row_class", row_class},   {"fresh_ticket", fresh_ticket}, {"fetch_page", fetch_page},
-             {"run_all", run_all},       {"crossing_report", crossing_report}, {"write_text", write_text},
-             {"read_text", read_text},   {"cover_records", cover_records}};
+} calls[] = {{"plan_cause", plan_cause}, {"make_order", make_order},           {"order_cause", order_cause},
+             {"row", row},               {"row_common", row_common},           {"nearest", nearest},
+             {"apart_pair", apart_pair}, {"row_class", row_class},             {"fresh_ticket", fresh_ticket},
+             {"fetch_page", fetch_page}, {"run_all", run_all},                 {"crossing_report", crossing_report},
+             {"write_text", write_text}, {"read_text", read_text},             {"cover_records", cover_records}};
 enum { CALLS = sizeof calls / sizeof *calls };
 
 /* A stack of our own, and how much of it each call has used: all below the caller's frame is filled with a byte, and the lowest that is another one

@@ -1,6 +1,6 @@
 //! One call with all that is lent to it, put to an overlay, compared and shown.
 
-use crate::overlay::{Overlay, Page, PairTold, Reading, RowTold, Run, Shape, Ticket, Writing};
+use crate::overlay::{CommonTold, Overlay, Page, PairTold, Reading, RowTold, Run, Shape, Ticket, Writing};
 use std::fmt::Write;
 use std::panic::{catch_unwind, AssertUnwindSafe};
 
@@ -16,6 +16,7 @@ pub struct Plan {
 pub enum Call {
     MakeOrder { plan: Plan, order: Vec<u32> },
     Row { plan: Plan, row: Vec<u32> },
+    Common { plan: Plan, row: Vec<u32> },
     Pair { plan: Plan, places: Vec<u32> },
     Fresh { plan: Plan, order: Vec<u32>, record: Vec<u64> },
     Page { plan: Plan, order: Vec<u32>, ticket: Ticket, record: Vec<u64>, budget: u32, table: Vec<u32> },
@@ -29,6 +30,7 @@ pub enum Call {
 pub enum Answer {
     Number(u32),
     Row(RowTold),
+    Common(CommonTold),
     Pair(PairTold),
     Fresh(u32, Ticket),
     Page(Page),
@@ -68,6 +70,7 @@ fn put(call: &mut Call, to: &dyn Overlay) -> Answer {
     match call {
         Call::MakeOrder { plan, order } => Answer::Number(to.make_order(&plan.shape, &plan.cells, order)),
         Call::Row { plan, row } => Answer::Row(to.row(&plan.shape, &plan.cells, row)),
+        Call::Common { plan, row } => Answer::Common(to.common(&plan.shape, &plan.cells, row)),
         Call::Pair { plan, places } => Answer::Pair(to.pair(&plan.shape, &plan.cells, places)),
         Call::Fresh { plan, order, record } => {
             let (number, ticket) = to.fresh(&plan.shape, &plan.cells, order, record);
@@ -120,6 +123,10 @@ fn show_call(text: &mut String, call: &Call) -> std::fmt::Result {
         }
         Call::Row { plan, row } => {
             writeln!(text, "row, cells {row:?}")?;
+            show_plan(text, plan)
+        }
+        Call::Common { plan, row } => {
+            writeln!(text, "common ground of a row, cells {row:?}")?;
             show_plan(text, plan)
         }
         Call::Pair { plan, places } => {
@@ -175,7 +182,9 @@ fn lent(call: &Call) -> Vec<(&'static str, Vec<i128>)> {
         Call::Fresh { plan, order, record } => {
             vec![("plan", signed(&plan.cells)), ("order", plain(order)), ("record", wide(record))]
         }
-        Call::Row { plan, row } => vec![("plan", signed(&plan.cells)), ("row", plain(row))],
+        Call::Row { plan, row } | Call::Common { plan, row } => {
+            vec![("plan", signed(&plan.cells)), ("row", plain(row))]
+        }
         Call::Pair { plan, places } => vec![("plan", signed(&plan.cells)), ("places", plain(places))],
         Call::Page { plan, order, record, table, .. } => vec![
             ("plan", signed(&plan.cells)),

@@ -1,7 +1,7 @@
 //! Puts thousands of seeded calls to two overlays and compares answers and all lent buffers.
 
 use crate::call::{ask, bytes, cells_i32, cells_u32, cells_u64, same, show, Answer, Call, Plan};
-use crate::known::{known_calls, known_margins, known_runs, known_tickets};
+use crate::known::{known_calls, known_grounds, known_margins, known_runs, known_tickets};
 use crate::overlay::{Overlay, Page, Stop, Ticket};
 use crate::reference::{count_rows, each_tuple, join, layers_of, pairs, TOO_MANY};
 use crate::seeds::{
@@ -108,9 +108,10 @@ impl Bench<'_> {
         self.ask(kind, Call::MakeOrder { plan: plan.clone(), order: cells_u32(length) }).map(drop)
     }
 
-    /// One row call.
+    /// One row call, and one for the row's common ground.
     fn ask_row(&mut self, kind: &'static str, plan: &Plan, row: &[u32]) -> Outcome {
-        self.ask(kind, Call::Row { plan: plan.clone(), row: row.to_vec() }).map(drop)
+        self.ask(kind, Call::Row { plan: plan.clone(), row: row.to_vec() })?;
+        self.ask(kind, Call::Common { plan: plan.clone(), row: row.to_vec() }).map(drop)
     }
 
     /// One pair call.
@@ -826,7 +827,7 @@ impl Bench<'_> {
     /// The calls whose answers the paper gives, put to both; a difference shows what is due as the right one.
     fn known(&mut self) -> Outcome {
         let kind = "known answers";
-        let known = [known_calls(), known_margins(), known_tickets(), known_runs()];
+        let known = [known_calls(), known_margins(), known_tickets(), known_runs(), known_grounds()];
         for known in known.into_iter().flatten() {
             for overlay in [self.left, self.right] {
                 let mut lent = known.call.clone();
@@ -876,6 +877,7 @@ impl Bench<'_> {
             18 => self.ticket_box(&grown_by(halves(), &[0, 1, 1, 0])),
             19 => self.ground_box(),
             20 => self.ground_large(),
+            21 => self.kind_box(),
             _ => Ok(()),
         }
     }
@@ -1255,16 +1257,45 @@ impl Bench<'_> {
     }
 }
 
+// ---------------------------------------------------------------- ground, edge or point (02, Q-7)
+
+/// Extents that lie apart, touch, lie over each other or in each other, some of length 0.
+const EXTENTS: [(i32, i32); 7] = [(0, 0), (0, 1), (0, 2), (1, 2), (2, 3), (0, 3), (1, 3)];
+
+/// Every rectangle of two such extents.
+fn small_rects() -> Vec<[i32; 4]> {
+    EXTENTS.iter().flat_map(|x| EXTENTS.iter().map(move |y| [x.0, y.0, x.1, y.1])).collect()
+}
+
+impl Bench<'_> {
+    /// The row of every two small rectangles, and of three to six at random, as they are drawn and with margins.
+    fn kind_box(&mut self) -> Outcome {
+        let (kind, rects) = ("kinds", small_rects());
+        for &a in &rects {
+            for &b in &rects {
+                self.ask_row(kind, &plan_from(&[&[a], &[b]]), &[0, 0])?;
+            }
+        }
+        for round in 0..6_000 {
+            let k = 3 + round % 4;
+            let cells = (0..k).flat_map(|_| self.seeds.pick(&rects)).collect();
+            let mut plan = Plan { shape: shape_of(&[1; 6][..k]), cells };
+            if round % 3 == 2 {
+                plan.shape.margins[..k].fill_with(|| self.seeds.below(2) as u32);
+            }
+            self.ask_row(kind, &plan, &[0; 6][..k])?;
+        }
+        Ok(())
+    }
+}
+
 // ---------------------------------------------------------------- ground counted once (02, Q-6)
 
 impl Bench<'_> {
     /// Whole runs on every pair of small rectangles, and on three and four at random: apart, touching, over each other, one in the other, as a cross, as a
     /// segment or a point.
     fn ground_box(&mut self) -> Outcome {
-        let kind = "ground";
-        let sides = [(0, 0), (0, 1), (0, 2), (1, 2), (2, 3), (0, 3), (1, 3)];
-        let rects: Vec<[i32; 4]> =
-            sides.iter().flat_map(|x| sides.iter().map(move |y| [x.0, y.0, x.1, y.1])).collect();
+        let (kind, rects) = ("ground", small_rects());
         for &a in &rects {
             for &b in &rects {
                 let plan = covered(&[a, b], 2);

@@ -1,7 +1,7 @@
 //! Calls and reports whose answers the paper gives, in plain numbers and bytes: every overlay is held to them.
 
 use crate::call::{Answer, Call, Plan};
-use crate::overlay::{Page, PairTold, Reading, RowTold, Run, Shape, Stop, Ticket, Writing};
+use crate::overlay::{CommonTold, Page, PairTold, Reading, RowTold, Run, Shape, Stop, Ticket, Writing};
 use crate::seeds::spell;
 
 /// The cells of plan D: two rectangles, and one that overlaps the first and touches the second.
@@ -361,6 +361,96 @@ pub fn known_runs() -> Vec<KnownCall> {
     ]
 }
 
+/// A call for a row's common ground: its number, the four sides and the kind.
+fn common(name: &'static str, plan: Plan, places: &[u32], told: (u32, [i32; 4], u8)) -> KnownCall {
+    let (number, sides, kind) = told;
+    let call = Call::Common { plan, row: places.to_vec() };
+    let answer = Answer::Common(CommonTold { number, sides, kind });
+    KnownCall { name, call: call.clone(), answer, after: call }
+}
+
+/// One rectangle in each layer.
+fn of_rects(rects: &[[i32; 4]]) -> Plan {
+    let plan = in_a_line(&vec![0; rects.len()]);
+    Plan { cells: rects.concat(), ..plan }
+}
+
+/// The common ground of rows: each kind, by every way to it; no row, and refusals.
+pub fn known_grounds() -> Vec<KnownCall> {
+    let d = || shaped(2, 2, 1);
+    let (square, none) = ([0, 0, 10, 10], |number| (number, [0; 4], 0));
+    vec![
+        common("the ground of the first row of D", d(), &[0, 0], (0, [500, 500, 1000, 1000], b'G')),
+        common("the ground of the second row of D", d(), &[1, 0], (0, [1000, 500, 1500, 500], b'E')),
+        common("an edge upright", in_a_line(&[0, 10]), &[0, 0], (0, [10, 0, 10, 10], b'E')),
+        common("an edge level", of_rects(&[square, [3, 10, 12, 20]]), &[0, 0], (0, [3, 10, 10, 10], b'E')),
+        common("a corner", of_rects(&[square, [10, 10, 12, 20]]), &[0, 0], (0, [10; 4], b'P')),
+        common("a corner below", of_rects(&[square, [10, -5, 12, 0]]), &[0, 0], (0, [10, 0, 10, 0], b'P')),
+        common("a segment in a square", of_rects(&[square, [2, 5, 8, 5]]), &[0, 0], (0, [2, 5, 8, 5], b'E')),
+        common("a segment on an edge", of_rects(&[square, [0, 2, 0, 8]]), &[0, 0], (0, [0, 2, 0, 8], b'E')),
+        common(
+            "a segment that ends on an edge",
+            of_rects(&[square, [10, 5, 18, 5]]),
+            &[0, 0],
+            (0, [10, 5, 10, 5], b'P'),
+        ),
+        common(
+            "two segments that cross",
+            of_rects(&[[0, 5, 10, 5], [5, 0, 5, 10]]),
+            &[0, 0],
+            (0, [5; 4], b'P'),
+        ),
+        common("a point in a square", of_rects(&[square, [4; 4]]), &[0, 0], (0, [4; 4], b'P')),
+        common(
+            "one square on its left",
+            of_rects(&[[-1, 0, 0, 9], square]),
+            &[0, 0],
+            (0, [0, 0, 0, 9], b'E'),
+        ),
+        common(
+            "a square millimetre",
+            of_rects(&[square, [9, 9, 20, 20]]),
+            &[0, 0],
+            (0, [9, 9, 10, 10], b'G'),
+        ),
+        common(
+            "an edge of all though the first two share ground",
+            of_rects(&[square, [5, 0, 15, 10], [10, 2, 20, 8]]),
+            &[0; 3],
+            (0, [10, 2, 10, 8], b'E'),
+        ),
+        common(
+            "a point though no two share less than an edge",
+            of_rects(&[[0, 0, 10, 20], [10, 0, 20, 20], [0, 0, 20, 10], [0, 10, 20, 20]]),
+            &[0; 4],
+            (0, [10; 4], b'P'),
+        ),
+        common("ground made by a margin", grown(d(), &[0, 250]), &[1, 0], (0, [1000, 250, 1750, 500], b'G')),
+        common(
+            "5 and 5 close a gap of 10",
+            grown(in_a_line(&[0, 20]), &[5, 5]),
+            &[0, 0],
+            (0, [15, -5, 15, 15], b'E'),
+        ),
+        common("5 and 4 leave a millimetre of it", grown(in_a_line(&[0, 20]), &[5, 4]), &[0, 0], none(0)),
+        common(
+            "a point in a margin of 1",
+            grown(of_rects(&[square, [4; 4]]), &[0, 1]),
+            &[0, 0],
+            (0, [3, 3, 5, 5], b'G'),
+        ),
+        common("places that are no row", in_a_line(&[0, 11]), &[0, 0], none(0)),
+        common("a place past the last", d(), &[2, 0], none(0)),
+        common("one place", d(), &[0], none(0)),
+        common("three places", d(), &[0, 0, 0], none(0)),
+        common("the ground of a plan of no layers", shaped(0, 2, 1), &[0, 0], none(1)),
+        common("the ground of a size of 600", shaped(2, 2, 600), &[0, 0], none(2)),
+        common("the ground of a margin of 50001", grown(d(), &[50_001]), &[0, 0], none(17)),
+        common("the ground of one rectangle too many", shaped(2, 1, 1), &[0, 0], none(3)),
+        common("the ground of a right of 1000001", with_cell(2, 1_000_001), &[0, 0], none(4)),
+    ]
+}
+
 // ---------------------------------------------------------------- reports
 
 /// The line of a square of 10.
@@ -393,8 +483,12 @@ pub fn known_reports() -> Vec<KnownReport> {
     let mut long = beside_a_square(&format!("LAYER,1,0/{}", SQUARE.repeat(5_000)));
     long.truncate(65_537);
     vec![
-        report("D", &d(",0", ",0"), "ROW,2,0,0,250000/ROW,1,1,0,0/TOTAL,2,4,0.25/"),
-        report("D in a margin of 250", &d(",0", ",250"), "ROW,2,0,0,562500/ROW,1,1,0,187500/TOTAL,2,4,0.75/"),
+        report("D", &d(",0", ",0"), "ROW,2,0,0,250000,G/ROW,1,1,0,0,E/TOTAL,2,4,0.25/"),
+        report(
+            "D in a margin of 250",
+            &d(",0", ",250"),
+            "ROW,2,0,0,562500,G/ROW,1,1,0,187500,G/TOTAL,2,4,0.75/",
+        ),
         report("D with old LAYER lines", &d("", ""), "REFUSED,9/"),
         report("D with one old LAYER line", &d(",0", ""), "REFUSED,9/"),
         report("D in a margin of 50,001", &d(",50001", ",0"), "REFUSED,10/"),
@@ -407,22 +501,32 @@ pub fn known_reports() -> Vec<KnownReport> {
             "REFUSED,10/",
         ),
         report("65,537 bytes", &long, "REFUSED,13/"),
-        report("4,999 square millimetres", &of_height(4_999), "ROW,1,0,0,4999/TOTAL,1,2,0.00/"),
-        report("5,000 square millimetres", &of_height(5_000), "ROW,1,0,0,5000/TOTAL,1,2,0.01/"),
+        report("4,999 square millimetres", &of_height(4_999), "ROW,1,0,0,4999,G/TOTAL,1,2,0.00/"),
+        report("5,000 square millimetres", &of_height(5_000), "ROW,1,0,0,5000,G/TOTAL,1,2,0.01/"),
         report(
             "4,999 square millimetres under two rows",
             &two("RECT,0,0,1,4999/RECT,0,0,1,4999/"),
-            "ROW,1,0,0,4999/ROW,1,1,0,4999/TOTAL,2,4,0.00/",
+            "ROW,1,0,0,4999,G/ROW,1,1,0,4999,G/TOTAL,2,4,0.00/",
         ),
         report(
             "4,999 square millimetres twice, beside each other",
             &two("RECT,0,0,1,4999/RECT,1,0,2,4999/"),
-            "ROW,1,0,0,4999/ROW,1,1,0,4999/TOTAL,2,4,0.01/",
+            "ROW,1,0,0,4999,G/ROW,1,1,0,4999,G/TOTAL,2,4,0.01/",
         ),
         report(
             "half of the ground under both rows",
             &two("RECT,0,0,1000,1000/RECT,500,0,1500,1000/"),
-            "ROW,1,0,0,1000000/ROW,1,1,0,1000000/TOTAL,2,4,1.50/",
+            "ROW,1,0,0,1000000,G/ROW,1,1,0,1000000,G/TOTAL,2,4,1.50/",
+        ),
+        report(
+            "a corner on a corner",
+            &two("RECT,-9,-9,0,0/RECT,-9,5000,0,6000/"),
+            "ROW,2,0,0,0,P/ROW,2,1,0,0,P/TOTAL,2,4,0.00/",
+        ),
+        report(
+            "a level segment and an upright one in a square",
+            &two("RECT,1,1,9,1/RECT,2,1,2,9/"),
+            "ROW,1,0,0,0,E/ROW,1,1,0,0,E/TOTAL,2,4,0.00/",
         ),
     ]
 }

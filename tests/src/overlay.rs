@@ -73,6 +73,14 @@ pub struct RowTold {
     pub area: u64,
 }
 
+/// What the call on a row's common ground returns: left, bottom, right, top, and the letter of its kind; all 0 with number 0 says that the cells name no row.
+#[derive(Clone, Copy, Debug, PartialEq, Eq)]
+pub struct CommonTold {
+    pub number: u32,
+    pub sides: [i32; 4],
+    pub kind: u8,
+}
+
 /// What the pair call returns; number 0 with both layers 0 says that the rectangles share a point.
 #[derive(Clone, Copy, Debug, PartialEq, Eq)]
 pub struct PairTold {
@@ -101,6 +109,8 @@ pub trait Overlay {
     fn make_order(&self, shape: &Shape, cells: &[i32], order: &mut [u32]) -> u32;
     /// Tells the guard's layer and the area of the row in the cells.
     fn row(&self, shape: &Shape, cells: &[i32], row: &[u32]) -> RowTold;
+    /// Tells the common ground of the row in the cells, and its kind.
+    fn common(&self, shape: &Shape, cells: &[i32], row: &[u32]) -> CommonTold;
     /// Tells the first pair of layers whose rectangles at the places do not meet.
     fn pair(&self, shape: &Shape, cells: &[i32], places: &[u32]) -> PairTold;
     /// Gives the ticket of the first trial, and begins a run in its record.

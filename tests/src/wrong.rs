@@ -1,11 +1,13 @@
 //! Overlays with one slip each; the comparison must catch every one.
 
-use crate::overlay::{Overlay, Page, PairTold, Reading, RowTold, Run, Shape, Stop, Ticket, Writing};
+use crate::overlay::{
+    CommonTold, Overlay, Page, PairTold, Reading, RowTold, Run, Shape, Stop, Ticket, Writing,
+};
 use crate::reference::{
-    about, area, bad_places, count_rows, first_of, grow, intersection, is_empty, join, layers_of, line_of,
-    page_from, pairs, passes, plan_fault, position, rects_at, refused_page, refused_pair, refused_run,
-    report, square_metres, stale, sweep_order, takes, text_of, ticket_at, trials_by, ungrown, union_of,
-    Layers, Line, Passes, Rect, Row, Rules, REFERENCE, TOO_MANY,
+    about, area, bad_places, count_rows, first_of, grow, intersection, is_empty, join, kind_of, layers_of,
+    line_of, page_from, pairs, passes, plan_fault, position, rects_at, refused_page, refused_pair,
+    refused_run, report, square_metres, stale, sweep_order, takes, text_of, ticket_at, trials_by, ungrown,
+    union_of, Layers, Line, Passes, Rect, Row, Rules, REFERENCE, TOO_MANY,
 };
 
 /// The slips.
@@ -146,10 +148,27 @@ pub enum Slip {
     SevenWorks,
     NineteenRows,
     NineteenGround,
+    KindsExchanged,
+    KindOfFirstPair,
+    KindOfLastPair,
+    KindOfWorstPair,
+    KindByArea,
+    KindByWidth,
+    KindByHeight,
+    KindOpen,
+    KindDrawn,
+    KindNumbered,
+    SidesDrawn,
+    SidesOfGuard,
+    SidesReordered,
+    SidesOfNoRow,
+    NoRowPoint,
+    CommonRefusalKind,
+    CommonTooLong,
 }
 
 /// Every slip with its description.
-pub const SLIPS: [(Slip, &str); 135] = [
+pub const SLIPS: [(Slip, &str); 152] = [
     (Slip::TiesTwice, "guards chosen with <= on both sides, so ties list a row twice"),
     (Slip::OpenEdges, "open edges"),
     (Slip::SpentAtEnd, "Spent reported where the last trial ended the walk"),
@@ -285,6 +304,23 @@ pub const SLIPS: [(Slip, &str); 135] = [
     (Slip::SevenWorks, "the work buffer written before 7 is decided"),
     (Slip::NineteenRows, "a run that 19 refuses telling its rows"),
     (Slip::NineteenGround, "a run that 19 refuses telling its ground"),
+    (Slip::KindsExchanged, "E and P exchanged"),
+    (Slip::KindOfFirstPair, "the kind of what the first two rectangles have in common"),
+    (Slip::KindOfLastPair, "the kind of what the last two rectangles have in common"),
+    (Slip::KindOfWorstPair, "the least kind of any two rectangles"),
+    (Slip::KindByArea, "E for all common ground of area 0"),
+    (Slip::KindByWidth, "G where the width is above 0"),
+    (Slip::KindByHeight, "G where the height is above 0"),
+    (Slip::KindOpen, "an edge or a point told as no row"),
+    (Slip::KindDrawn, "the kind of what the rectangles have in common as they are drawn"),
+    (Slip::KindNumbered, "kinds told as 1, 2 and 3"),
+    (Slip::SidesDrawn, "the sides of what the rectangles have in common as they are drawn"),
+    (Slip::SidesOfGuard, "the sides of the guard"),
+    (Slip::SidesReordered, "the sides told as left, right, bottom, top"),
+    (Slip::SidesOfNoRow, "sides told where there is no row"),
+    (Slip::NoRowPoint, "no row told as a point"),
+    (Slip::CommonRefusalKind, "a refused call telling a kind"),
+    (Slip::CommonTooLong, "more than k cells read as the first k for the common ground"),
 ];
 
 /// The reference with one slip.
@@ -413,8 +449,46 @@ fn ground_rules(slip: Slip) -> Rules {
         Slip::NineteenByTable => asked(|_, _, room| 2 * room),
         Slip::NineteenExact => asked(|rows, _, _| if rows > 0 { 2 * rows + 1 } else { 0 }),
         Slip::NineteenEmpty => asked(|rows, _, _| (2 * rows).max(1)),
+        _ => kind_rules(slip),
+    }
+}
+
+/// The rules under a slip of telling kinds.
+fn kind_rules(slip: Slip) -> Rules {
+    let told = |kind| Rules { kind, ..REFERENCE };
+    match slip {
+        Slip::KindsExchanged => told(|rects| match (REFERENCE.kind)(rects) {
+            b'E' => b'P',
+            b'P' => b'E',
+            other => other,
+        }),
+        Slip::KindOfFirstPair => told(|rects| kind_of(intersection(rects[0], rects[1]))),
+        Slip::KindOfLastPair => {
+            told(|rects| kind_of(intersection(rects[rects.len() - 2], rects[rects.len() - 1])))
+        }
+        Slip::KindOfWorstPair => told(|rects| {
+            let all = pairs(rects.len());
+            let kinds: Vec<u8> =
+                all.iter().map(|&(i, j)| kind_of(intersection(rects[i], rects[j]))).collect();
+            let worst = [b'P', b'E'].into_iter().find(|kind| kinds.contains(kind));
+            worst.unwrap_or(b'G')
+        }),
+        Slip::KindByArea => told(|rects| if (REFERENCE.kind)(rects) == b'G' { b'G' } else { b'E' }),
+        Slip::KindByWidth => told(|rects| by_side(rects, |r| r.left < r.right)),
+        Slip::KindByHeight => told(|rects| by_side(rects, |r| r.bottom < r.top)),
+        Slip::KindNumbered => told(|rects| match (REFERENCE.kind)(rects) {
+            b'G' => 1,
+            b'E' => 2,
+            _ => 3,
+        }),
         _ => REFERENCE,
     }
+}
+
+/// Ground where one side is above 0, else what it is.
+fn by_side(rects: &[Rect], above: fn(Rect) -> bool) -> u8 {
+    let common = rects.iter().copied().reduce(intersection);
+    common.map_or(0, |common| if above(common) { b'G' } else { kind_of(common) })
 }
 
 /// The sum of areas.
@@ -426,6 +500,11 @@ fn summed(rects: &[Rect]) -> u64 {
 fn widened(rects: &[Rect], right: i32, top: i32) -> Vec<Rect> {
     let wider = |r: &Rect| Rect { right: r.right + right, top: r.top + top, ..*r };
     rects.iter().filter(|&&r| area(r) > 0).map(wider).collect()
+}
+
+/// The sides of a rectangle as they are told.
+fn sides(r: Rect) -> [i32; 4] {
+    [r.left, r.bottom, r.right, r.top]
 }
 
 /// Ground row by row, in the order of the lefts: on each strip between two lines what a row adds is from where the ground so far lets it begin to its right.
@@ -918,6 +997,47 @@ impl Overlay for Wrong {
         }
     }
 
+    /// The call on a row's common ground with its slips.
+    fn common(&self, shape: &Shape, cells: &[i32], row: &[u32]) -> CommonTold {
+        let told = rules_of(self.0).common(shape, cells, row);
+        let k = shape.k.min(6) as usize;
+        if told.number != 0 {
+            let kind = if self.0 == Slip::CommonRefusalKind { b'G' } else { 0 };
+            return CommonTold { kind, ..told };
+        }
+        let layers = layers_of(shape, cells);
+        if told.kind == 0 {
+            return match self.0 {
+                Slip::CommonTooLong if row.len() > k => REFERENCE.common(shape, cells, &row[..k]),
+                Slip::NoRowPoint => CommonTold { kind: b'P', ..told },
+                Slip::SidesOfNoRow if !bad_places(&layers, row) => {
+                    let common = rects_at(&layers, row).into_iter().reduce(intersection);
+                    CommonTold { sides: common.map_or([0; 4], sides), ..told }
+                }
+                _ => told,
+            };
+        }
+        let drawn = rects_at(&ungrown(shape, cells), row).into_iter().reduce(intersection);
+        match (self.0, drawn) {
+            (Slip::OpenEdges | Slip::KindOpen, _) if told.kind != b'G' => {
+                CommonTold { number: 0, sides: [0; 4], kind: 0 }
+            }
+            (Slip::KindDrawn, Some(common)) if !is_empty(common) => {
+                CommonTold { kind: kind_of(common), ..told }
+            }
+            (Slip::SidesDrawn, Some(common)) => CommonTold { sides: sides(common), ..told },
+            (Slip::SidesOfGuard, _) => {
+                let guard = REFERENCE.row(shape, cells, row).layer as usize - 1;
+                CommonTold { sides: sides(layers[guard][row[guard] as usize]), ..told }
+            }
+            (Slip::SidesReordered, _) => {
+                let [left, bottom, right, top] = told.sides;
+                CommonTold { sides: [left, right, bottom, top], ..told }
+            }
+            _ => told,
+        }
+    }
+
     /// The pair call with its slips.
     fn pair(&self, shape: &Shape, cells: &[i32], places: &[u32]) -> PairTold {
         let rules = rules_of(self.0);
@@ -1149,7 +1269,7 @@ impl Overlay for Wrong {
 pub type Report = fn(&[u8]) -> Vec<u8>;
 
 /// Every wrong report with its description.
-pub const REPORT_SLIPS: [(Report, &str); 7] = [
+pub const REPORT_SLIPS: [(Report, &str); 13] = [
     (rounded_rows, "each row's area rounded before summing"),
     (summed_rows, "a total of all areas, ground under two rows twice"),
     (short_work, "a work buffer of 6,144 cells lent, which does not suffice for every table"),
@@ -1157,6 +1277,12 @@ pub const REPORT_SLIPS: [(Report, &str); 7] = [
     (thirteen_at_limit, "13 at 65,536 bytes"),
     (cut_short, "a report cut short at 65,536 bytes"),
     (as_drawn, "a report of the rectangles as they are drawn"),
+    (no_kinds, "ROW lines without their kind"),
+    (kinds_first, "the kind of a row before its area"),
+    (small_kinds, "kinds in small letters"),
+    (exchanged_kinds, "ROW lines with E and P exchanged"),
+    (first_pair_kinds, "ROW lines with the kind of their first two rectangles"),
+    (open_kinds, "a report without the rows that only touch"),
 ];
 
 /// The report with each row's area rounded to hundredths of a square metre before summing.
@@ -1166,8 +1292,8 @@ fn rounded_rows(input: &[u8]) -> Vec<u8> {
     let mut out = String::new();
     for line in text.split_inclusive('\n') {
         let fields: Vec<&str> = line.trim_end().split('\t').collect();
-        let area: u64 = fields[fields.len() - 1].parse().unwrap_or(0);
         if fields[0] == "ROW" {
+            let area: u64 = fields[fields.len() - 2].parse().expect("an area before the kind");
             hundredths += (area + 5_000) / 10_000;
         }
         if fields[0] == "TOTAL" {
@@ -1188,6 +1314,60 @@ fn summed_rows(input: &[u8]) -> Vec<u8> {
 /// The report that lends 6,144 cells of work: 12,288 are so many where a row needs four of them.
 fn short_work(input: &[u8]) -> Vec<u8> {
     Rules { work: |rows, _, _| 4 * rows, ..REFERENCE }.report(input)
+}
+
+/// The report with each ROW line's fields put otherwise.
+fn with_rows(input: &[u8], put: fn(Vec<String>) -> Vec<String>) -> Vec<u8> {
+    let text = String::from_utf8(report(input)).expect("a report is plain");
+    let line = |line: &str| {
+        let fields: Vec<String> = line.split('\t').map(String::from).collect();
+        if fields[0] == "ROW" { put(fields) } else { fields }.join("\t") + "\n"
+    };
+    text.lines().map(line).collect::<String>().into_bytes()
+}
+
+/// The report as it was before rows had kinds, but for its total.
+fn no_kinds(input: &[u8]) -> Vec<u8> {
+    with_rows(input, |mut fields| {
+        fields.pop();
+        fields
+    })
+}
+
+/// The report with the last two fields of each ROW line exchanged.
+fn kinds_first(input: &[u8]) -> Vec<u8> {
+    with_rows(input, |mut fields| {
+        let last = fields.len() - 1;
+        fields.swap(last - 1, last);
+        fields
+    })
+}
+
+/// The report with g, e and p.
+fn small_kinds(input: &[u8]) -> Vec<u8> {
+    with_rows(input, |mut fields| {
+        let kind = fields.pop().unwrap_or_default();
+        fields.push(kind.to_lowercase());
+        fields
+    })
+}
+
+/// The report with E and P exchanged.
+fn exchanged_kinds(input: &[u8]) -> Vec<u8> {
+    kind_rules(Slip::KindsExchanged).report(input)
+}
+
+/// The report with the kind of the first two rectangles of each row.
+fn first_pair_kinds(input: &[u8]) -> Vec<u8> {
+    kind_rules(Slip::KindOfFirstPair).report(input)
+}
+
+/// The report with G lines alone.
+fn open_kinds(input: &[u8]) -> Vec<u8> {
+    let text = String::from_utf8(report(input)).expect("a report is plain");
+    let lines =
+        text.split_inclusive('\n').filter(|line| !line.ends_with("\tE\n") && !line.ends_with("\tP\n"));
+    lines.collect::<String>().into_bytes()
 }
 
 /// The report that reads a text before it asks for its length.

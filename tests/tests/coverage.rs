@@ -1,9 +1,12 @@
 //! Every outcome of every call occurs often enough among the compared cases.
 
 use overlay_tests::compare::compare;
-use overlay_tests::overlay::{Overlay, Page, PairTold, Reading, RowTold, Run, Shape, Stop, Ticket, Writing};
+use overlay_tests::overlay::{
+    CommonTold, Overlay, Page, PairTold, Reading, RowTold, Run, Shape, Stop, Ticket, Writing,
+};
 use overlay_tests::reference::{
-    join, pairs, rects_at, row_of, share_a_point, sweep_order, ungrown, REFERENCE, TOO_MANY,
+    intersection, join, kind_of, pairs, rects_at, row_of, share_a_point, sweep_order, ungrown, REFERENCE,
+    TOO_MANY,
 };
 use std::cell::RefCell;
 use std::collections::BTreeMap;
@@ -84,6 +87,29 @@ impl Overlay for Counting {
                 Some(drawn) if drawn.guard != told.layer => self.count("guard only by margins".into()),
                 Some(drawn) if drawn.area != told.area => self.count("area only by margins".into()),
                 Some(_) => {}
+            }
+        }
+        told
+    }
+
+    fn common(&self, shape: &Shape, cells: &[i32], row: &[u32]) -> CommonTold {
+        let told = REFERENCE.common(shape, cells, row);
+        let kind = if told.kind == 0 { "none".into() } else { char::from(told.kind).to_string() };
+        self.count(format!("ground {} {kind}", told.number));
+        if told.kind != 0 {
+            self.count(format!("ground {kind} of k {}", shape.k));
+            let rects = rects_at(&(REFERENCE.layers)(shape, cells), row);
+            let pair = |&(i, j): &(usize, usize)| kind_of(intersection(rects[i], rects[j]));
+            let pairs = pairs(rects.len()).iter().map(pair).collect::<Vec<u8>>();
+            if pairs[0] != told.kind {
+                self.count(format!("ground {kind} but not of the first pair"));
+            }
+            if !pairs.contains(&told.kind) {
+                self.count(format!("ground {kind} of no pair"));
+            }
+            match row_of(&ungrown(shape, cells), row) {
+                Some(drawn) if kind_of(drawn.common) == told.kind => {}
+                _ => self.count(format!("ground {kind} only by margins")),
             }
         }
         told
@@ -202,6 +228,13 @@ fn outcomes() -> Vec<String> {
     let grown = ["order", "row", "guard", "area", "pair none", "run with rows"];
     all.extend(grown.map(|what| format!("{what} only by margins")));
     all.extend(["row that just touches by margins", "read margins"].map(String::from));
+    for kind in ["G", "E", "P"] {
+        all.extend((2..=6).map(|k| format!("ground {kind} of k {k}")));
+        all.extend([format!("ground 0 {kind}"), format!("ground {kind} only by margins")]);
+    }
+    all.extend(["E", "P"].map(|kind| format!("ground {kind} but not of the first pair")));
+    all.extend([0, 1, 2, 17, 3, 4].map(|number| format!("ground {number} none")));
+    all.push("ground P of no pair".into());
     all.extend(["run without work", "run with work that just fits"].map(String::from));
     all
 }

@@ -3,9 +3,9 @@
 use overlay_tests::call::Plan;
 use overlay_tests::overlay::{Overlay, Page, Reading, Run, Shape, Stop, Ticket, Writing};
 use overlay_tests::reference::{
-    area, each_row_by_loops, each_row_by_product, each_tuple, intersection, is_empty, join, layers_of,
-    passes, report, row_of, share_a_point, square_metres, trials_by, union_by_lines, union_by_squares,
-    union_of, walk_length, Rect, REFERENCE,
+    area, each_row_by_loops, each_row_by_product, each_tuple, intersection, is_empty, join, kind_of,
+    layers_of, passes, rects_at, report, row_of, share_a_point, square_metres, trials_by, union_by_lines,
+    union_by_squares, union_of, walk_length, Rect, REFERENCE,
 };
 use overlay_tests::seeds::{
     covered, equal_plan, grown_by, order, plan_d, plan_from, shape_of, spell, text, towers, Seeds, STYLES,
@@ -216,7 +216,7 @@ fn margins_in_texts() {
 
 #[test]
 fn report_of_d() {
-    assert_eq!(report(&text(&plan_d())), spell("ROW,2,0,0,250000/ROW,1,1,0,0/TOTAL,2,4,0.25/"));
+    assert_eq!(report(&text(&plan_d())), spell("ROW,2,0,0,250000,G/ROW,1,1,0,0,E/TOTAL,2,4,0.25/"));
     let spelling =
         "PLAN,2/LAYER,2,0/RECT,0,0,1000,1000/RECT,1000,0,2000,500/LAYER,1,0/RECT,500,500,1500,1500/";
     assert_eq!(text(&plan_d()), spell(spelling));
@@ -230,9 +230,9 @@ fn report_of_d() {
 fn square_metres_are_rounded_once() {
     assert_eq!([4_999, 5_000, 250_000, 999_995_000].map(square_metres), ["0.00", "0.01", "0.25", "1000.00"]);
     let beside = covered(&[[0, 0, 1, 4_999], [1, 0, 2, 4_999]], 2);
-    assert_eq!(report(&text(&beside)), spell("ROW,1,0,0,4999/ROW,1,1,0,4999/TOTAL,2,4,0.01/"));
+    assert_eq!(report(&text(&beside)), spell("ROW,1,0,0,4999,G/ROW,1,1,0,4999,G/TOTAL,2,4,0.01/"));
     let over = equal_plan(&[2, 1], [0, 0, 1, 4_999]);
-    assert_eq!(report(&text(&over)), spell("ROW,1,0,0,4999/ROW,1,1,0,4999/TOTAL,2,4,0.00/"));
+    assert_eq!(report(&text(&over)), spell("ROW,1,0,0,4999,G/ROW,1,1,0,4999,G/TOTAL,2,4,0.00/"));
 }
 
 #[test]
@@ -399,6 +399,38 @@ fn the_ground_of_the_forecourt_is_counted_once() {
     assert_eq!(told.ground, union_of(&grounds(&plan)));
     let printed = format!("TOTAL\t7\t232\t{}\n", square_metres(told.ground));
     assert!(report(text).ends_with(printed.as_bytes()));
+}
+
+/// How many whole points a rectangle holds along each axis.
+fn points(r: Rect) -> [i64; 2] {
+    [i64::from(r.right) - i64::from(r.left) + 1, i64::from(r.top) - i64::from(r.bottom) + 1]
+}
+
+#[test]
+fn a_row_is_ground_an_edge_or_a_point() {
+    let mut seen = [0; 3];
+    for plan in plans() {
+        let (layers, k) = (layers_of(&plan.shape, &plan.cells), plan.shape.k as usize);
+        for row in join(&layers) {
+            let places = &row.places[..k];
+            let told = REFERENCE.common(&plan.shape, &plan.cells, places);
+            let Rect { left, bottom, right, top } = row.common;
+            assert_eq!((told.number, told.sides), (0, [left, bottom, right, top]));
+            let due = match points(row.common) {
+                [1, 1] => b'P',
+                [1, _] | [_, 1] => b'E',
+                _ => b'G',
+            };
+            assert_eq!(told.kind, due);
+            assert_eq!(told.kind == b'G', row.area > 0);
+            // In whichever order the rectangles are taken.
+            let mut rects = rects_at(&layers, places);
+            rects.rotate_left(k / 2);
+            assert_eq!(rects.into_iter().reduce(intersection).map(kind_of), Some(due));
+            seen[usize::from(due == b'E') + 2 * usize::from(due == b'P')] += 1;
+        }
+    }
+    assert!(seen.iter().all(|&times| times > 500), "{seen:?}");
 }
 
 #[test]

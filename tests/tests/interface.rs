@@ -132,7 +132,7 @@ fn agree(header: &str, library: &str, wrapper: &str) -> bool {
 #[test]
 fn header_library_and_wrapper_agree() {
     let functions = in_header(HEADER);
-    assert_eq!(functions.len(), 14);
+    assert_eq!(functions.len(), 15);
     assert_eq!(functions, in_library(LIBRARY));
     assert_eq!(plain(&functions), in_wrapper(WRAPPER));
 }
@@ -167,6 +167,8 @@ fn every_change_is_noticed() {
         ("uint64_t *counter", "const uint64_t *counter"),
         ("int32_t *work, size_t work_length", "int32_t *work"),
         ("int32_t *work", "uint32_t *work"),
+        ("int32_t answer[5]", "int32_t answer[4]"),
+        ("int32_t answer[5]", "uint64_t answer[5]"),
         ("uint32_t counts[17]", "uint32_t counts[16]"),
         ("uint32_t budget,", "uint64_t budget,"),
         ("size_t *size", "uint32_t *size"),
@@ -187,6 +189,8 @@ fn every_change_is_noticed() {
         ("counter: &mut [u64]", "counter: &[u64]"),
         ("ticket: &mut [u32; 12]", "ticket: &mut [u32; 10]"),
         ("work: &mut [i32]", "work: &mut [u32]"),
+        ("answer: &mut [i32; 5]", "answer: &mut [i32; 4]"),
+        ("fn overlay_row_common(", "fn overlay_row_ground("),
         ("    work: &mut [i32],\n", ""),
         ("k: &mut u32", "k: u32"),
         ("corners: &[f64]", "corners: &[u64]"),
@@ -201,6 +205,7 @@ fn every_change_is_noticed() {
         ("counter: *mut u64", "counter: *mut u32"),
         ("        work_length: usize,\n", ""),
         ("work: *mut i32", "work: *mut u32"),
+        ("answer: *mut i32", "answer: *mut u64"),
         ("        margins: *const u32,\n", ""),
         ("        margins: *mut u32,\n", ""),
         ("budget: u32", "budget: u64"),

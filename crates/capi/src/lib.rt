@@ -1,5 +1,7 @@
 // The calls of the plan overlay for other languages. A slice is a pointer and a length, fixed cells are a pointer, and each call returns the number of
 // a cause, 0 for none. The cells of tickets and answers are laid out by crate `cells` (specs/Cells.antt); include/overlay.h declares the calls for C.
+use cells::common_cells;
+use cells::common_number;
 use cells::covering_kept;
 use cells::covering_number;
 use cells::order_number;
@@ -30,6 +32,7 @@ use plan::Shape;
 use plan::plan_cause;
 use plan::rect_at;
 use rows::row;
+use rows::row_common;
 use survey::cover_records;
 use sweep::make_order;
 use sweep::order_cause;
@@ -41,14 +44,14 @@ ghost use lib.ListN.{length};
 ghost use Rattle.plan.specs.Plan.{rectAt, planCause};
 ghost use Rattle.nearest.specs.Nearest.{nearestCall, nearCells};
 ghost use Rattle.sweep.specs.Sweep.{orderCause, makeCause, orderAfter};
-ghost use Rattle.rows.specs.RowCall.{rowCall, rowValues};
+ghost use Rattle.rows.specs.RowCall.{rowCall, rowValues, commonCall, commonValues};
 ghost use Rattle.pairs.specs.PairCall.{pairCall, pairValues};
 ghost use Rattle.crossings.specs.ClassCall.{classCall, classValues};
 ghost use Rattle.paging.specs.Calls.{freshCall, freshCounter, pageCause, pageCall, pageTable, pageCounter, runCause, runCall, runTable, WorkAfter, runValues, crossingRunCause, crossingCall, crossingTable};
 ghost use Rattle.survey.specs.CoverCall.{coverCause, coverAnswer, coverValues, coverAfter};
 ghost use Rattle.text.specs.Reader.{readCause, readAnswer, cellsAfter};
 ghost use Rattle.text.specs.Writer.{writeCause, writeLength, bufferAfter};
-ghost use Rattle.cells.specs.Cells.{shapeOf, ticketCells, ticketIn, pageCells, ticketAfter, runCells, rowCells, acrossIn, upwardIn, pairCells};
+ghost use Rattle.cells.specs.Cells.{shapeOf, ticketCells, ticketIn, pageCells, ticketAfter, runCells, rowCells, commonCells, acrossIn, upwardIn, pairCells};
 
 // The first of the causes 1 to 4 and 17 that applies to a plan.
 #[no_mangle]
@@ -147,6 +150,35 @@ pub extern "C" fn overlay_row(
     );
     *answer = row_cells(told);
     row_number(told)
+}
+
+// The common ground of the row that the lent places name in the table of a plan. The answer's cells: left, bottom, right, top, and its kind, the letter G, E
+// or P; all 0 where they name none.
+#[no_mangle]
+pub extern "C" fn overlay_row_common(
+    k: u32,
+    sizes: &[u32; 6],
+    margins: &[u32; 6],
+    cells: &[i32],
+    places: &[u32],
+    answer: &mut [i32; 5],
+) -> u32
+    ensures number { λ r. ⌜ r ≡ commonValues (commonCall (shapeOf k (now (sizes .entry)) (now (margins .entry))) (now (cells .entry)) (now (places .entry))) .number ⌝ }
+    ensures answer { λ _. ⌜ now (answer .exit) ≡ commonCells (commonValues (commonCall (shapeOf k (now (sizes .entry)) (now (margins .entry))) (now (cells .entry)) (now (places .entry)))) ⌝ }
+{
+    let six = *sizes;
+    let wide = *margins;
+    let told = row_common(
+        Shape {
+            k,
+            sizes: six,
+            margins: wide,
+        },
+        cells,
+        places,
+    );
+    *answer = common_cells(told);
+    common_number(told)
 }
 
 // What lies nearest to a box (left, bottom, right, top) in each layer. The answer's cells, three for each of six layers: found or not, place, squared gap.

@@ -9,14 +9,15 @@ use lib.ListN.{length, getD-replicate, length-replicate}
 use borrow.Author.Tests.{le-leb, eq-eqb}
 use Rattle.lists.specs.Lists.{All, none-left, _and_, same, Pairwise, done, _then_}
 use Rattle.totals.specs.Totals.{totalOf, valueOf}
+use Rattle.geometry.specs.Rectangles as Rectangles
 use Rattle.geometry.specs.Rectangles.{maxZ, minZ, common, nonempty, meets, between, held, inRange, grownBy, areaOf, inExtent}
 use Rattle.geometry.proofs.Machine.{rect-eq}
 use Rattle.plan.specs.Plan.{rectAt, grown, fitsAt, planCause, layers}
 use Rattle.plan.proofs.Plan.{ranged-all}
 use Rattle.sweep.specs.Sweep.{before, sweepOrder, orderCause}
-use Rattle.join.specs.Join.{areaIn, sameZ}
+use Rattle.join.specs.Join.{areaIn, kindIn, sameZ}
 use Rattle.join.specs.Table.{same-spot, belongs, tableOf}
-use Rattle.rows.specs.RowCall.{isRow, rowCall}
+use Rattle.rows.specs.RowCall.{isRow, rowCall, commonCall}
 use Rattle.walk.specs.Walk.{walkOf}
 use Rattle.paging.specs.Cursors.{sameCursor, resume}
 use Rattle.paging.specs.Calls.{current, freshCause, freshCall, freshCounter, cursorCause, pageCause, pageCall, pageTable, pageCounter, runCause, runCall}
@@ -30,7 +31,7 @@ use Rattle.text.specs.Reader.{readCause, textShape, textCells}
 use Rattle.printing.specs.Lines as Lines
 use Rattle.printing.specs.Lines.{rowFields, squareMetres}
 use Rattle.reporting.specs.Report.{emptyTable, reportCause, reportOf}
-use Rattle.cases.specs.Cases.{Case, shape, alike, Holds, GroundHolds, dText, smallText, twiceText}
+use Rattle.cases.specs.Cases.{Case, shape, alike, Holds, GroundHolds, dText, smallText, twiceText, cornerText}
 use mathlib.Core.Bool.{true}
 use Rattle.geometry.specs.declared.Rect.{Rect}
 use Rattle.geometry.proofs.Integers.{zarith, add-law}
@@ -98,13 +99,17 @@ union-twice =
     less q (List·Memᴰ·head e) = List·Memᴰ·head e
     less q (List·Memᴰ·tail m) = m
 
+union-corner : unionOf (corners (pos 10) (pos 10) (pos 10) (pos 10) ∷ []) ≡ 0
+unfolding areaOf held between nonempty
+union-corner = union-holds .apart (corners (pos 10) (pos 10) (pos 10) (pos 10) ∷ []) (_and_ refl none-left) (_then_ none-left done)
+
 infixr 20 _also_
 -- one more case holds
 _also_ : {c : Case} {cs : List Case} → Holds c → All Holds cs → All Holds (c ∷ cs)
 _also_ h hs = _and_ h hs
 
 pub ground-holds : GroundHolds
-unfolding totalOf valueOf maxZ minZ common nonempty meets between held areaOf rectAt grownBy grown fitsAt planCause before sweepOrder orderCause areaIn sameZ same-spot belongs tableOf isRow rowCall walkOf same sameCursor resume current freshCause freshCall freshCounter cursorCause pageCause pageCall pageTable pageCounter readCause textShape textCells linesOf line number kindOf shapeIn agrees size decimal Lines.lineOf rowFields squareMetres runCause runCall emptyTable reportCause reportOf
+unfolding totalOf valueOf maxZ minZ common nonempty meets Rectangles.kindOf between held areaOf rectAt grownBy grown fitsAt planCause before sweepOrder orderCause areaIn kindIn sameZ same-spot belongs tableOf isRow rowCall commonCall walkOf same sameCursor resume current freshCause freshCall freshCounter cursorCause pageCause pageCall pageTable pageCounter readCause textShape textCells linesOf line number kindOf shapeIn agrees size decimal Lines.lineOf rowFields squareMetres runCause runCall emptyTable reportCause reportOf
 ground-holds =
     (refl, refl, refl)
     also (refl, refl, refl, refl, refl, refl, refl, (refl, refl, refl, refl, refl, refl, refl, tt))
@@ -132,6 +137,7 @@ ground-holds =
     also report-with dText 250000 refl refl union-d
     also report-with smallText 9800 refl refl union-small
     also report-with twiceText 1000000 refl refl union-twice
+    also report-with cornerText 0 refl refl union-corner
     also refl
     also (refl, refl)
     also (refl, refl)

@@ -15,7 +15,7 @@ use Rattle.plan.specs.declared.Shape.{Shape}
 use Rattle.plan.specs.Plan.{sizesOf, planCause, grown}
 use Rattle.sweep.specs.Sweep.{sweepOrder}
 use Rattle.join.specs.Table.{tableOf}
-use Rattle.rows.specs.RowCall.{rowCall, rowValues}
+use Rattle.rows.specs.RowCall.{rowCall, rowValues, commonCall, commonValues}
 use Rattle.walk.specs.Walk.{walkOf}
 use Rattle.paging.specs.declared.Cursor.{Cursor}
 use Rattle.paging.specs.declared.Ticket.{Ticket}
@@ -29,11 +29,12 @@ use Rattle.printing.specs.Lines.{hundredths, squareMetres}
 use Rattle.reporting.specs.Report.{reportOf}
 
 -- ---- what cases are made of
--- a row as the report tells it: the guard's layer, the places, the area
+-- a row as the report tells it: the guard's layer, the places, the area, the letter of the kind
 pub record Told : Type 0 where
   pub layer : ℕ
   pub places : List ℕ
   pub area : ℕ
+  pub kind : ℕ
 
 -- a page call's budget and table, and what it must answer: stop, rows, probes, area, the table afterwards, the ticket
 pub record Turn : Type 0 where
@@ -64,9 +65,9 @@ pub data Case : Type 0 where
   -- a text, and what is printed for it
   Reported : List ℕ → List ℕ → Case
 
--- what the row call tells of a row
+-- what the row call and the call for its common ground tell of a row
 abbrev pub toldRow : Shape → List ℤ → List ℕ → Told
-toldRow s cells row = let v = rowValues (rowCall s cells row) in record { layer = v .layer; places = row; area = v .area }
+toldRow s cells row = let v = rowValues (rowCall s cells row) in record { layer = v .layer; places = row; area = v .area; kind = commonValues (commonCall s cells row) .kind }
 
 -- the ticket of a cursor and a count
 abbrev pub counting : Cursor → ℕ → Ticket
@@ -106,8 +107,15 @@ margined m n o k a b c = record { k = k; sizes = a ∷ b ∷ c ∷ 0 ∷ 0 ∷ 0
 abbrev pub shape : (k first second third : ℕ) → Shape
 shape = margined 0 0 0
 
-abbrev pub row : ℕ → List ℕ → ℕ → Told
-row layer places area = record { layer = layer; places = places; area = area }
+abbrev pub row : ℕ → List ℕ → ℕ → ℕ → Told
+row layer places area kind = record { layer = layer; places = places; area = area; kind = kind }
+
+-- the letters of the kinds
+abbrev pub G : ℕ
+G = 71
+
+abbrev pub E : ℕ
+E = 69
 
 abbrev pub turn : ℕ → List ℕ → Stop → (rows probes area : ℕ) → List ℕ → Ticket → Turn
 turn budget table stop rows probes area after due =
@@ -171,11 +179,11 @@ dText =
     ∷ 82 ∷ 69 ∷ 67 ∷ 84 ∷ 9 ∷ 53 ∷ 48 ∷ 48 ∷ 9 ∷ 53 ∷ 48 ∷ 48 ∷ 9 ∷ 49 ∷ 53 ∷ 48 ∷ 48 ∷ 9 ∷ 49 ∷ 53 ∷ 48 ∷ 48 ∷ 10
     ∷ []
 
--- its report: ROW 2 0 0 250000 / ROW 1 1 0 0 / TOTAL 2 4 0.25
+-- its report: ROW 2 0 0 250000 G / ROW 1 1 0 0 E / TOTAL 2 4 0.25
 abbrev pub dReport : List ℕ
 dReport =
-    82 ∷ 79 ∷ 87 ∷ 9 ∷ 50 ∷ 9 ∷ 48 ∷ 9 ∷ 48 ∷ 9 ∷ 50 ∷ 53 ∷ 48 ∷ 48 ∷ 48 ∷ 48 ∷ 10
-    ∷ 82 ∷ 79 ∷ 87 ∷ 9 ∷ 49 ∷ 9 ∷ 49 ∷ 9 ∷ 48 ∷ 9 ∷ 48 ∷ 10
+    82 ∷ 79 ∷ 87 ∷ 9 ∷ 50 ∷ 9 ∷ 48 ∷ 9 ∷ 48 ∷ 9 ∷ 50 ∷ 53 ∷ 48 ∷ 48 ∷ 48 ∷ 48 ∷ 9 ∷ 71 ∷ 10
+    ∷ 82 ∷ 79 ∷ 87 ∷ 9 ∷ 49 ∷ 9 ∷ 49 ∷ 9 ∷ 48 ∷ 9 ∷ 48 ∷ 9 ∷ 69 ∷ 10
     ∷ 84 ∷ 79 ∷ 84 ∷ 65 ∷ 76 ∷ 9 ∷ 50 ∷ 9 ∷ 52 ∷ 9 ∷ 48 ∷ 46 ∷ 50 ∷ 53 ∷ 10
     ∷ []
 
@@ -197,20 +205,27 @@ abbrev pub smallText : List ℕ
 smallText = bytes "PLAN\t2\nLAYER\t1\t0\nRECT\t0\t0\t70\t170\nLAYER\t2\t0\nRECT\t0\t0\t70\t70\nRECT\t0\t100\t70\t170\n"
 
 abbrev pub smallReport : List ℕ
-smallReport = bytes "ROW\t1\t0\t0\t4900\nROW\t1\t0\t1\t4900\nTOTAL\t2\t4\t0.01\n"
+smallReport = bytes "ROW\t1\t0\t0\t4900\tG\nROW\t1\t0\t1\t4900\tG\nTOTAL\t2\t4\t0.01\n"
+
+-- a plan of three layers whose first two rectangles share ground and touch the third in a point, and its report
+abbrev pub cornerText : List ℕ
+cornerText = bytes "PLAN\t3\nLAYER\t1\t0\nRECT\t0\t0\t10\t10\nLAYER\t1\t0\nRECT\t5\t5\t10\t10\nLAYER\t1\t0\nRECT\t10\t10\t20\t20\n"
+
+abbrev pub cornerReport : List ℕ
+cornerReport = bytes "ROW\t3\t0\t0\t0\t0\tP\nTOTAL\t1\t5\t0.00\n"
 
 -- one of two rows over the same square metre, and its report
 abbrev pub twiceText : List ℕ
 twiceText = bytes "PLAN\t2\nLAYER\t1\t0\nRECT\t0\t0\t1000\t1000\nLAYER\t2\t0\nRECT\t0\t0\t1000\t1000\nRECT\t0\t0\t1000\t1000\n"
 
 abbrev pub twiceReport : List ℕ
-twiceReport = bytes "ROW\t1\t0\t0\t1000000\nROW\t1\t0\t1\t1000000\nTOTAL\t2\t4\t1.00\n"
+twiceReport = bytes "ROW\t1\t0\t0\t1000000\tG\nROW\t1\t0\t1\t1000000\tG\nTOTAL\t2\t4\t1.00\n"
 
 -- ---- the list
 abbrev pub cases : List Case
 cases =
-    -- "D: two rows, four trials."
-    Listed d dCells (row 2 (0 ∷ 0 ∷ []) 250000 ∷ row 1 (1 ∷ 0 ∷ []) 0 ∷ []) 4
+    -- "D: two rows, four trials." 02: "the first row is G, the second E"
+    Listed d dCells (row 2 (0 ∷ 0 ∷ []) 250000 G ∷ row 1 (1 ∷ 0 ∷ []) 0 E ∷ []) 4
     -- "D, budget 2, ten cells: one row, Spent; again: one row, Ended."
     ∷ Paged d dCells (turn 2 (ten 7 7) Spent 1 2 250000 (ten 0 0) (counting (first 2 0 1) 2) ∷ turn 2 (ten 7 7) Ended 1 2 0 (ten 1 0) (counting endedCursor 4) ∷ [])
     -- "D, a table of two cells, budget 9: two trials, Full; again: two trials, Ended."
@@ -218,7 +233,7 @@ cases =
     -- "D, budget 0 and no cells: Full."
     ∷ Paged d dCells (turn 0 [] Full 0 0 0 [] (counting (first 1 0 0) 0) ∷ [])
     -- "One equal rectangle in each of two layers: one row, guard in layer 1, two trials."
-    ∷ Listed (shape 2 1 1 0) twoAlike (row 1 (0 ∷ 0 ∷ []) 4 ∷ []) 2
+    ∷ Listed (shape 2 1 1 0) twoAlike (row 1 (0 ∷ 0 ∷ []) 4 G ∷ []) 2
     -- "Sizes 1 and 0: no trials, fresh ticket Ended."
     ∷ Listed (shape 2 1 0 0) one [] 0
     ∷ Fresh (shape 2 1 0 0) one endedCursor
@@ -226,7 +241,7 @@ cases =
     ∷ Listed (shape 3 1 1 0) twoAlike [] 2
     -- "the right of one at 9 and the left of the other at 10: no row; at 10 and 10: a row"
     ∷ Listed (shape 2 1 1 0) (box 0 0 9 5 (box 10 0 20 5 [])) [] 2
-    ∷ Listed (shape 2 1 1 0) (box 0 0 10 5 (box 10 0 20 5 [])) (row 2 (0 ∷ 0 ∷ []) 0 ∷ []) 2
+    ∷ Listed (shape 2 1 1 0) (box 0 0 10 5 (box 10 0 20 5 [])) (row 2 (0 ∷ 0 ∷ []) 0 E ∷ []) 2
     -- "As the right of a RECT at left 0, in a text otherwise sound: -0 and 07 give 9; 1000001 gives 10; 1000000 is read."
     ∷ isRefused (textWith "-0") 9
     ∷ isRefused (textWith "07") 9
@@ -251,6 +266,8 @@ cases =
     ∷ Reported smallText smallReport
     -- 02, Q-6: "ground under two rows entered only once"
     ∷ Reported twiceText twiceReport
+    -- ours: the kind is that of the row's ground, and not of its first pair's
+    ∷ Reported cornerText cornerReport
     -- ours: a refusal, in bytes
     ∷ Reported [] refusedNine
     -- ours: a text in bytes, with numbers below 0 and a left that is not the bottom; a number of eight digits
@@ -281,11 +298,11 @@ cases =
     -- 02: "old LAYER lines are no longer well formed"
     ∷ isRefused (bytes "PLAN\t2\nLAYER\t0\nLAYER\t0\n") 9
     -- a margin of 1 closes a gap of 1: the two touch
-    ∷ Listed (margined 1 0 0 2 1 1 0) (box 0 0 9 5 (box 10 0 20 5 [])) (row 2 (0 ∷ 0 ∷ []) 0 ∷ []) 2
+    ∷ Listed (margined 1 0 0 2 1 1 0) (box 0 0 9 5 (box 10 0 20 5 [])) (row 2 (0 ∷ 0 ∷ []) 0 E ∷ []) 2
     -- one of 10 makes the second rectangle's left a tie with the first's, so the guard is in layer 1; the area is of the grown ones
-    ∷ Listed (margined 0 10 0 2 1 1 0) (box 0 0 20 5 (box 10 0 12 5 [])) (row 1 (0 ∷ 0 ∷ []) 100 ∷ []) 2
+    ∷ Listed (margined 0 10 0 2 1 1 0) (box 0 0 20 5 (box 10 0 12 5 [])) (row 1 (0 ∷ 0 ∷ []) 100 G ∷ []) 2
     -- ours: several rows of one guard in three layers, in their order
-    ∷ Listed (shape 3 2 1 2) three (row 2 (0 ∷ 0 ∷ 0 ∷ []) 50 ∷ row 2 (0 ∷ 0 ∷ 1 ∷ []) 30 ∷ row 2 (1 ∷ 0 ∷ 0 ∷ []) 45 ∷ row 2 (1 ∷ 0 ∷ 1 ∷ []) 27 ∷ []) 16
+    ∷ Listed (shape 3 2 1 2) three (row 2 (0 ∷ 0 ∷ 0 ∷ []) 50 G ∷ row 2 (0 ∷ 0 ∷ 1 ∷ []) 30 G ∷ row 2 (1 ∷ 0 ∷ 0 ∷ []) 45 G ∷ row 2 (1 ∷ 0 ∷ 1 ∷ []) 27 G ∷ []) 16
     -- ours, of Q-5: the fresh ticket of D again, and an Ended, after more trials; a record of no cell and of two; a ticket that check 6 refuses first; 2^57 − 1
     -- and 2^57
     ∷ Judged d dCells (counting (first 1 0 0) 0) (0 ∷ []) 0

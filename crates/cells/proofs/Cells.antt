@@ -5,10 +5,19 @@ use mathlib.Core.Bool.{Bool, true, false, cond}
 use Prim.Native.Nat.{ℕ, zero, suc, _/_, _%_, _≤_, _<_}
 use lib.Dec.{eqb}
 use lib.ListN.{getD}
+use lib.IntN.{ℤ, pos}
 use lib.Ieee.{Float, binary64, ofBits}
-use mir.Val.{boolByte}
+use native.Mathlib.Omega.{arith}
+use mir.Syntax.{w32}
+use mir.Val.{boolByte, toZ, ofZ}
+use mir.Facts.{toZ-ofZ, toZ-pos}
 use borrow.Author.Tests.{le-leb, lt-leb}
 use Rattle.lists.proofs.Tests.{as-number}
+use Rattle.geometry.specs.declared.Rect.{Rect}
+use Rattle.geometry.specs.declared.Kind.{Kind}
+use Rattle.geometry.specs.declared.Kind.the-variants.{Ground, Edge, Point}
+use Rattle.geometry.specs.Rectangles.{letterOf}
+use Rattle.geometry.proofs.Machine.{Fitting}
 use Rattle.plan.specs.Causes.{onCause}
 use Rattle.totals.specs.declared.Total.{Total}
 use Rattle.totals.specs.Totals.{valueOf}
@@ -59,6 +68,20 @@ run-none e = ap (λ (n : ℕ). 0 ∷ 0 ∷ n ∷ n ∷ []) (sym (value-total 0))
 -- an acceptance those of its values
 pub run-some : {r : Run} {rows probes : ℕ} {area ground : Total} (v u : ℕ) → v ≡ valueOf area → u ≡ valueOf ground → Done rows probes area ground ≡ r → rows ∷ probes ∷ v ∷ u ∷ [] ≡ runCells (runValues r)
 run-some {rows = rows} {probes = probes} v u p q e = ap₂ (λ (n m : ℕ). rows ∷ probes ∷ n ∷ m ∷ []) p q ∙ ap (λ (a : Run). runCells (runValues a)) e
+
+-- ---- a row's common ground
+letter-small : (k : Kind) → letterOf k < 128
+letter-small Ground = omega arith
+letter-small Edge = omega arith
+letter-small Point = omega arith
+
+-- its sides and its letter as they are read
+pub ground-read : (r : Rect) (k : Kind) (byte : ℕ) → Fitting r → byte ≡ letterOf k
+    → toZ w32 (ofZ w32 (r .left)) ∷ toZ w32 (ofZ w32 (r .bottom)) ∷ toZ w32 (ofZ w32 (r .right)) ∷ toZ w32 (ofZ w32 (r .top)) ∷ toZ w32 byte ∷ []
+    ≡ r .left ∷ r .bottom ∷ r .right ∷ r .top ∷ pos (letterOf k) ∷ []
+ground-read r k byte f e =
+    let z : toZ w32 byte ≡ pos byte = toZ-pos w32 (omega (arith, letter-small k)) in
+    rw (toZ-ofZ (f .left), toZ-ofZ (f .bottom), toZ-ofZ (f .right), toZ-ofZ (f .top), z, e)
 
 -- a kind above 3 is no strip
 pub strip-none : (kind : ℕ) (lower upper : Float) → (kind ≡ 0 → ⊥) → (kind ≡ 1 → ⊥) → (kind ≡ 2 → ⊥) → (kind ≡ 3 → ⊥) → Between (ofBits binary64 0x3ff0_0000_0000_0000) (ofBits binary64 0) ≡ stripIn kind lower upper

@@ -32,7 +32,7 @@ use Rattle.paging.proofs.Theorems.{demand3}
 use Rattle.survey.specs.Theorems.{SoundStops}
 use Rattle.survey.proofs.Theorems.{surveys}
 use Rattle.cells.specs.Cells.{cursorCells, ticketCells, noCursor, cursorIn, ticketIn, stopCode, ticketAfter, stripIn}
-use Rattle.cells.specs.Theorems.{CellRun, end, refused, accepted, TicketsInCells, ShapesInCells, StripsInCells}
+use Rattle.cells.specs.Theorems.{CellRun, end, refused, accepted, TicketsInCells, ShapesInCells, AnswersInCells, StripsInCells}
 use Rattle.cells.proofs.Cells.{in-none}
 
 -- five cells, read one by one
@@ -143,6 +143,15 @@ strips-in-cells = record {
   stops = λ j k left right bottom top. (refl, refl);
   across = λ kind lower upper upward corners room h. surveys .causes (stripIn kind lower upper) upward corners room .twenty-one .1 (λ s. no-stops kind lower upper h (s .0));
   upward = λ kind lower upper across corners room h. surveys .causes across (stripIn kind lower upper) corners room .twenty-one .1 (λ s. no-stops kind lower upper h (s .1));
+}
+
+pub answers-in-cells : AnswersInCells
+answers-in-cells = record {
+  page = λ p. refl;
+  refused = λ cause. refl;
+  run = λ number rows probes area ground. refl;
+  row = λ number layer area. refl;
+  common = λ number kind left bottom right top. refl;
 }
 
 pub shapes-in-cells : ShapesInCells

@@ -4,12 +4,12 @@ use mathlib.Core.Bool.{true, cond}
 use Prim.Native.Nat.{ℕ, zero, suc, _+_, _*_, _/_, _%_}
 use lib.Dec.{eqb, leb}
 use lib.ListN.{getD}
-use lib.IntN.{pos}
+use lib.IntN.{ℤ, pos}
 use lib.Ieee.{Float, nan}
 use Rattle.totals.specs.Totals.{valueOf}
 use Rattle.plan.specs.declared.Shape.{Shape}
 use Rattle.plan.specs.Causes.{onCause}
-use Rattle.rows.specs.RowCall.{RowValues}
+use Rattle.rows.specs.RowCall.{RowValues, CommonValues}
 use Rattle.floats.specs.Values.{exact}
 use Rattle.survey.specs.declared.Strip.{Strip}
 use Rattle.survey.specs.declared.Strip.the-variants.{Free, From, To, Between}
@@ -68,6 +68,10 @@ runCells v = v .rows ∷ v .probes ∷ valueOf (v .area) ∷ valueOf (v .ground)
 -- ---- rows: the guard's layer, area
 abbrev pub rowCells : RowValues → List ℕ
 rowCells v = v .layer ∷ v .area ∷ []
+
+-- ---- the common ground of a row: left, bottom, right, top, the letter of the kind
+abbrev pub commonCells : CommonValues → List ℤ
+commonCells v = v .left ∷ v .bottom ∷ v .right ∷ v .top ∷ pos (v .kind) ∷ []
 
 -- ---- pairs of layers: the lower layer, the higher
 abbrev pub pairCells : PairValues → List ℕ

@@ -3,21 +3,24 @@ use mathlib.Core.Path.{_≡_}
 use mathlib.Core.List.{List, [], _∷_, map, List·Memᴰ}
 use mathlib.Core.Logic.{_↔_}
 use Prim.Native.Nat.{ℕ, _<_}
-use lib.IntN.{ℤ}
+use lib.IntN.{ℤ, pos}
 use lib.ListN.{getD}
 use lib.Ieee.{Float}
+use Rattle.totals.specs.declared.Total.{Total}
+use Rattle.totals.specs.Totals.{valueOf}
 use Rattle.plan.specs.declared.Shape.{Shape}
 use Rattle.plan.specs.Plan.{Typed}
 use Rattle.sweep.specs.Sweep.{orderCause}
 use Rattle.search.specs.declared.Stop.{Stop}
-use Rattle.search.specs.declared.Stop.the-variants.{Ended, Full, Spent}
+use Rattle.search.specs.declared.Stop.the-variants.{Ended, Full, Spent, Refused}
+use Rattle.paging.specs.declared.Page.{Page}
 use Rattle.paging.specs.Overlays.{overlay}
 use Rattle.paging.specs.Calls.{freshCause, freshCall, freshCounter, pageCause}
 use Rattle.paging.specs.Theorems.{Call, served, begun, PagingHolds, TicketsHold}
 use Rattle.survey.specs.declared.Strip.{Strip}
 use Rattle.survey.specs.declared.Strip.the-variants.{Free, From, To, Between}
 use Rattle.survey.specs.CoverCall.{coverCause}
-use Rattle.cells.specs.Cells.{shapeOf, ticketCells, ticketIn, stopCode, ticketAfter, stripIn, acrossIn, upwardIn}
+use Rattle.cells.specs.Cells.{shapeOf, ticketCells, ticketIn, stopCode, pageCells, ticketAfter, runCells, rowCells, commonCells, stripIn, acrossIn, upwardIn}
 
 -- a list of exported page calls in one run, by the calls that they hand on: an accepted one brings, in its ticket's cells, what the fresh call or an accepted one
 -- before it left there, and the counter as the last of them left it. `tickets` are these cells, the newest first. A refused call may bring anything
@@ -45,6 +48,19 @@ pub record ShapesInCells : Type 0 where
   pub k : (k : ℕ) (sizes margins : List ℕ) → shapeOf k sizes margins .k ≡ k
   pub sizes : (k : ℕ) (sizes margins : List ℕ) → shapeOf k sizes margins .sizes ≡ sizes
   pub margins : (k : ℕ) (sizes margins : List ℕ) → shapeOf k sizes margins .margins ≡ margins
+
+-- what calls answer, cell by cell
+pub record AnswersInCells : Type 0 where
+  -- a page: why it stopped (above), rows, probes and area; the first cell is 0 after a refusal
+  pub page : (p : Page) → pageCells p ≡ stopCode (p .stop) ∷ p .rows ∷ p .probes ∷ valueOf (p .area) ∷ []
+  pub refused : (cause : ℕ) → stopCode (Refused cause) ≡ 0
+  -- a whole run: rows, probes, area, and ground counted once
+  pub run : (number rows probes : ℕ) (area ground : Total) → runCells (record { number = number; rows = rows; probes = probes; area = area; ground = ground }) ≡ rows ∷ probes ∷ valueOf area ∷ valueOf ground ∷ []
+  -- a row: the guard's layer and the area
+  pub row : (number layer area : ℕ) → rowCells (record { number = number; layer = layer; area = area }) ≡ layer ∷ area ∷ []
+  -- a row's common ground: left, bottom, right and top, then the letter of its kind
+  pub common : (number kind : ℕ) (left bottom right top : ℤ)
+      → commonCells (record { number = number; kind = kind; left = left; bottom = bottom; right = right; top = top }) ≡ left ∷ bottom ∷ right ∷ top ∷ pos kind ∷ []
 
 pub record StripsInCells : Type 0 where
   -- the kinds, and which stop stands where

@@ -1,9 +1,13 @@
 // Tickets, strips and the answers of calls as numbers and cells of fixed length, for languages without enums. The layout is in specs/Cells.antt.
+use geometry::Kind;
+use geometry::Rect;
+use geometry::letter;
 use paging::Cursor;
 use paging::Page;
 use paging::Run;
 use paging::Ticket;
 use pairs::PairAnswer;
+use rows::CommonAnswer;
 use rows::RowAnswer;
 use search::Stop;
 use survey::Covering;
@@ -12,14 +16,17 @@ use sweep::OrderAnswer;
 use text::Writing;
 use totals::value;
 ghost use mathlib.Core.Path.{_≡_};
+ghost use mathlib.Core.List.{[], _∷_};
 ghost use Prim.Native.Nat.{_+_, _*_};
+ghost use lib.IntN.{pos};
+ghost use Rattle.geometry.specs.Rectangles.{letterOf};
 ghost use Rattle.sweep.specs.Sweep.{orderNumber};
-ghost use Rattle.rows.specs.RowCall.{rowValues};
+ghost use Rattle.rows.specs.RowCall.{rowValues, commonValues};
 ghost use Rattle.pairs.specs.PairCall.{pairValues};
 ghost use Rattle.paging.specs.Calls.{stopNumber, runValues};
 ghost use Rattle.text.specs.Writer.{numberOf, lengthOf};
 ghost use Rattle.survey.specs.CoverCall.{coverValues};
-ghost use Rattle.cells.specs.Cells.{ticketCells, cursorIn, ticketIn, stopCode, pageCells, ticketAfter, runCells, rowCells, stripIn, pairCells};
+ghost use Rattle.cells.specs.Cells.{ticketCells, cursorIn, ticketIn, stopCode, pageCells, ticketAfter, runCells, rowCells, commonCells, stripIn, pairCells};
 
 // The number of a writer's answer.
 pub fn written_number(writing: Writing) -> u32
@@ -71,6 +78,36 @@ pub fn row_cells(answer: RowAnswer) -> [u64; 2]
         RowAnswer::NoRow => [0, 0],
         RowAnswer::Row(layer, area) => [layer as u64, area],
     }
+}
+
+// The number of the answer on a row's common ground.
+pub fn common_number(answer: CommonAnswer) -> u32
+    ensures { λ r. ⌜ r ≡ commonValues answer .number ⌝ }
+{
+    match answer {
+        CommonAnswer::Refused(cause) => cause,
+        CommonAnswer::NoRow => 0,
+        CommonAnswer::Common(_, _) => 0,
+    }
+}
+
+// The cells of the answer on a row's common ground.
+pub fn common_cells(answer: CommonAnswer) -> [i32; 5]
+    ensures { λ r. ⌜ r ≡ commonCells (commonValues answer) ⌝ }
+{
+    match answer {
+        CommonAnswer::Refused(_) => [0, 0, 0, 0, 0],
+        CommonAnswer::NoRow => [0, 0, 0, 0, 0],
+        CommonAnswer::Common(r, kind) => ground_cells(r, kind),
+    }
+}
+
+// The sides of a rectangle, and the letter of its kind.
+fn ground_cells(r: Rect, kind: Kind) -> [i32; 5]
+    ensures { λ v. ⌜ v ≡ r .left ∷ r .bottom ∷ r .right ∷ r .top ∷ pos (letterOf kind) ∷ [] ⌝ }
+{
+    let byte = letter(kind);
+    [r.left, r.bottom, r.right, r.top, byte as i32]
 }
 
 // The number of a pair call's answer.

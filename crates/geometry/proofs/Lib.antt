@@ -1,4 +1,5 @@
 pub mod Integers
 pub mod Machine
 pub mod Rectangles
+pub mod Sides
 pub mod Theorems

@@ -1,6 +1,6 @@
 -- What the machine reads back of signed numbers and rectangles, and the tests as the code makes them.
 use mathlib.Core.Path.{_≡_, sym, ap, ap₂, _∙_, subst}
-use mathlib.Core.Bool.{Bool, true, false}
+use mathlib.Core.Bool.{Bool, true, false, cond}
 use Prim.Native.Nat.{ℕ, _*_, _≤_, _<_}
 use native.Mathlib.Nat.{mul-le-mul, lt-of-le-of-lt, le-pred-of-lt}
 use lib.Dec.{T, lit<}
@@ -11,8 +11,10 @@ use mir.Val.{SFits, Fits, toZ, ofZ}
 use mir.Facts.{toZ-ofZ, toZ-pos}
 use native.Mathlib.Omega.{arith}
 use Rattle.geometry.specs.declared.Rect.{Rect}
+use Rattle.geometry.specs.declared.Kind.{Kind}
+use Rattle.geometry.specs.declared.Kind.the-variants.{Ground, Edge, Point}
 use Rattle.geometry.specs.declared.Meeting.the-variants.{Apart, Common}
-use Rattle.geometry.specs.Rectangles.{common, nonempty, meets, meeting, reach, extent, between}
+use Rattle.geometry.specs.Rectangles.{common, nonempty, meets, kindOf, meeting, reach, extent, between}
 use Rattle.geometry.proofs.Integers.{zarith, sub-law, one-side, size-law, nonNeg-law, →sfits, sfits→}
 
 -- ---- what the machine reads back, and a record by its fields
@@ -44,10 +46,14 @@ pub some-else : (r : Rect) → leZ (r .left) (r .right) ≡ false → false ≡ 
 unfolding nonempty
 some-else r e = rw e
 
+pub kind-is : (r : Rect) (t u : Bool) → ltZ (r .left) (r .right) ≡ t → ltZ (r .bottom) (r .top) ≡ u → cond t (cond u Ground Edge) (cond u Edge Point) ≡ kindOf r
+unfolding kindOf
+kind-is r t u e f = rw (e, f)
+
 module _ (a b c : Rect) (t : Bool) (made : c ≡ common a b) (told : t ≡ nonempty c) where
-  pub meet-then : t ≡ true → Common c ≡ meeting a b
+  pub meet-then : (k : Kind) → t ≡ true → k ≡ kindOf c → Common c k ≡ meeting a b
   unfolding meeting meets
-  meet-then e = cc
+  meet-then k e f = cc
 
   pub meet-else : t ≡ false → Apart ≡ meeting a b
   unfolding meeting meets

@@ -8,11 +8,13 @@ use lib.IntN.{ℤ, pos, negℤ, natAbs, _+ℤ_, _-ℤ_}
 use lib.Signed.{leZ, _≤ℤ_}
 use Rattle.lists.proofs.Tests.{both, and-true}
 use Rattle.geometry.specs.declared.Rect.{Rect}
+use Rattle.geometry.specs.declared.Kind.{Kind}
 use Rattle.geometry.specs.declared.Meeting.{Meeting}
 use Rattle.geometry.specs.declared.Meeting.the-variants.{Apart, Common}
-use Rattle.geometry.specs.Rectangles.{In, maxZ, minZ, common, nonempty, meets, meeting, reach, extent, between, held, inRange, inExtent, areaOf, mostArea, grownBy}
+use Rattle.geometry.specs.Rectangles.{In, maxZ, minZ, common, nonempty, meets, kindOf, meeting, reach, extent, between, held, inRange, inExtent, areaOf, mostArea, grownBy}
 use Rattle.geometry.specs.Theorems.{Ranged}
 use Rattle.geometry.proofs.Integers.{up, dn, zarith, neg-law, one-side, size-law, add-law, sub-law}
+use Rattle.geometry.proofs.Machine.{rect-eq}
 
 -- ---- maximum and minimum, as omega reads them
 pub max-law : (a b : ℤ) → up (maxZ a b) + dn a + dn b ≡ max (up a + dn b) (up b + dn a) + dn (maxZ a b)
@@ -78,6 +80,16 @@ pub sides : (r : Rect) → nonempty r ≡ true → (r .left ≤ℤ r .right) × 
 unfolding nonempty
 sides r e = let h = both (leZ (r .left) (r .right)) (leZ (r .bottom) (r .top)) e in omega zarith
 
+-- rectangles with the same points, of which there are some, are the same
+pub same-points : (a b : Rect) → nonempty a ≡ true → ((x y : ℤ) → In x y a → In x y b) → ((x y : ℤ) → In x y b → In x y a) → a ≡ b
+same-points a b e f g =
+    let s = sides a e in
+    let p = f (a .left) (a .bottom) (omega zarith) in
+    let q = f (a .right) (a .top) (omega zarith) in
+    let u = g (b .left) (b .bottom) (omega zarith) in
+    let v = g (b .right) (b .top) (omega zarith) in
+    rect-eq (omega zarith) (omega zarith) (omega zarith) (omega zarith)
+
 pub meets-point : (a b : Rect) → meets a b ≡ true → (x : ℤ) × (y : ℤ) × (In x y a × In x y b)
 unfolding meets
 meets-point a b e =
@@ -95,19 +107,19 @@ point-meets a b x y h k =
 
 -- what a meeting tells of two rectangles
 module _ (a b : Rect) (m : Meeting) (made : m ≡ meeting a b) where
-  pub meeting-common : (c : Rect) → m ≡ Common c → (meets a b ≡ true) × (c ≡ common a b)
+  pub meeting-common : (c : Rect) (k : Kind) → m ≡ Common c k → (meets a b ≡ true) × (c ≡ common a b) × (k ≡ kindOf (common a b))
   unfolding meeting
-  meeting-common c e = go (meets a b) (sym e ∙ made)
+  meeting-common c k e = go (meets a b) (sym e ∙ made)
     where
-      go : (t : Bool) → Common c ≡ cond t (Common (common a b)) Apart → (t ≡ true) × (c ≡ common a b)
-      go true q = (refl, cc)
+      go : (t : Bool) → Common c k ≡ cond t (Common (common a b) (kindOf (common a b))) Apart → (t ≡ true) × (c ≡ common a b) × (k ≡ kindOf (common a b))
+      go true q = (refl, cc, cc)
       go false q = let z : _≡_ {A = ℕ} 0 1 = cc in absurd (omega arith)
 
   pub meeting-apart : m ≡ Apart → meets a b ≡ false
   unfolding meeting
   meeting-apart e = go (meets a b) (sym e ∙ made)
     where
-      go : (t : Bool) → Apart ≡ cond t (Common (common a b)) Apart → t ≡ false
+      go : (t : Bool) → Apart ≡ cond t (Common (common a b) (kindOf (common a b))) Apart → t ≡ false
       go true q = let z : _≡_ {A = ℕ} 0 1 = cc in absurd (omega arith)
       go false q = refl
 

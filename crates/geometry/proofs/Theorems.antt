@@ -1,6 +1,8 @@
 -- The promises on common ground hold.
-use Rattle.geometry.specs.Theorems.{CommonGround, Growing}
+use mathlib.Core.Path.{refl}
+use Rattle.geometry.specs.Theorems.{CommonGround, Kinds, Growing}
 use Rattle.geometry.proofs.Rectangles.{common-comm, common-assoc, common-same, in-both, in-common, meets-point, point-meets, ranged, in-range, area-exact, range-area, extent-area, grown-sides, grown-none, grown-wider, grown-extent}
+use Rattle.geometry.proofs.Sides.{handed, not-handed, kind-holds, one-kind, ground-edge, ground-point, edge-point, kind-area}
 
 pub common-ground : CommonGround
 common-ground = record {
@@ -12,6 +14,17 @@ common-ground = record {
   range = λ r. (ranged r, in-range r);
   exact = area-exact;
   area = range-area;
+}
+
+pub kinds : Kinds
+kinds = record {
+  handed = handed;
+  apart = not-handed;
+  sides = kind-holds;
+  one = one-kind;
+  different = (ground-edge refl, ground-point refl, edge-point refl);
+  area = kind-area;
+  letters = (refl, refl, refl);
 }
 
 pub growing : Growing

@@ -2,8 +2,10 @@
 use mathlib.Core.Bool.{Bool, cond, _&&_}
 use Prim.Native.Nat.{ℕ, _*_}
 use lib.IntN.{ℤ, pos, negℤ, natAbs, _+ℤ_, _-ℤ_}
-use lib.Signed.{leZ, _≤ℤ_}
+use lib.Signed.{leZ, ltZ, _≤ℤ_}
 use Rattle.geometry.specs.declared.Rect.{Rect}
+use Rattle.geometry.specs.declared.Kind.{Kind}
+use Rattle.geometry.specs.declared.Kind.the-variants.{Ground, Edge, Point}
 use Rattle.geometry.specs.declared.Meeting.{Meeting}
 use Rattle.geometry.specs.declared.Meeting.the-variants.{Apart, Common}
 
@@ -34,9 +36,19 @@ nonempty r = leZ (r .left) (r .right) && leZ (r .bottom) (r .top)
 unfoldable pub meets : Rect → Rect → Bool
 meets a b = nonempty (common a b)
 
--- the common rectangle of two that meet
+-- 02, Q-7: "its kind: G with both sides above 0, E with exactly one side 0, P with both 0" (specs/Theorems.antt, `Kinds`)
+unfoldable pub kindOf : Rect → Kind
+kindOf r = cond (ltZ (r .left) (r .right)) (cond (ltZ (r .bottom) (r .top)) Ground Edge) (cond (ltZ (r .bottom) (r .top)) Edge Point)
+
+-- the letters G, E and P, as bytes
+abbrev pub letterOf : Kind → ℕ
+letterOf Ground = 71
+letterOf Edge = 69
+letterOf Point = 80
+
+-- 02, Q-7: "The test of two rectangles shall say whether they meet and, if so, hand back their common rectangle and its kind"
 unfoldable pub meeting : Rect → Rect → Meeting
-meeting a b = cond (meets a b) (Common (common a b)) Apart
+meeting a b = cond (meets a b) (Common (common a b) (kindOf (common a b))) Apart
 
 -- ---- range
 -- 01: "Each coordinate is from −1,000,000 to 1,000,000"

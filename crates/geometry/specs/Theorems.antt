@@ -1,12 +1,15 @@
 -- Theorem: what is promised of common ground, for all rectangles. Proved in proofs/Theorems.antt.
 use mathlib.Core.Path.{_≡_}
 use mathlib.Core.Bool.{true}
-use mathlib.Core.Logic.{_↔_}
-use Prim.Native.Nat.{ℕ, _*_, _≤_}
+use mathlib.Core.Logic.{_↔_, _⊎_}
+use Prim.Native.Nat.{ℕ, _*_, _≤_, _<_}
 use lib.IntN.{ℤ, pos, negℤ, _+ℤ_}
 use lib.Signed.{_≤ℤ_}
 use Rattle.geometry.specs.declared.Rect.{Rect}
-use Rattle.geometry.specs.Rectangles.{In, common, meets, held, inRange, grownBy, areaOf}
+use Rattle.geometry.specs.declared.Kind.{Kind}
+use Rattle.geometry.specs.declared.Kind.the-variants.{Ground, Edge, Point}
+use Rattle.geometry.specs.declared.Meeting.the-variants.{Apart, Common}
+use Rattle.geometry.specs.Rectangles.{In, common, nonempty, meets, kindOf, letterOf, meeting, held, inRange, grownBy, areaOf}
 
 -- 01: "Each coordinate is from −1,000,000 to 1,000,000"
 abbrev pub Coordinate : ℤ → Type 0
@@ -36,6 +39,27 @@ pub record CommonGround : Type 0 where
   pub exact : (r : Rect) (width height : ℕ) → r .right ≡ r .left +ℤ pos width → r .top ≡ r .bottom +ℤ pos height → areaOf r ≡ width * height
   -- ... and of a rectangle in range at most 4 × 10^12
   pub area : (r : Rect) → inRange r ≡ true → areaOf r ≤ 4000000000000
+
+-- 02, Q-7: "G with both sides above 0, E with exactly one side 0, P with both 0"
+pub record KindHolds (kind : Kind) (width height : ℕ) : Type 0 where
+  pub ground : (kind ≡ Ground) ↔ ((0 < width) × (0 < height))
+  pub edge : (kind ≡ Edge) ↔ (((width ≡ 0) × (0 < height)) ⊎ ((0 < width) × (height ≡ 0)))
+  pub point : (kind ≡ Point) ↔ ((width ≡ 0) × (height ≡ 0))
+
+pub record Kinds : Type 0 where
+  -- two rectangles with a common point hand back their intersection (`both` above) and its kind
+  pub handed : (a b : Rect) (x y : ℤ) → In x y a → In x y b → meeting a b ≡ Common (common a b) (kindOf (common a b))
+  -- ... and others nothing
+  pub apart : (a b : Rect) → ((x y : ℤ) → In x y a → In x y b → ⊥) → meeting a b ≡ Apart
+  -- the kind of a rectangle is that of its sides
+  pub sides : (r : Rect) (width height : ℕ) → r .right ≡ r .left +ℤ pos width → r .top ≡ r .bottom +ℤ pos height → KindHolds (kindOf r) width height
+  -- there is no fourth kind, and none is another
+  pub one : (kind : Kind) → (kind ≡ Ground) ⊎ ((kind ≡ Edge) ⊎ (kind ≡ Point))
+  pub different : (Ground ≡ Edge → ⊥) × (Ground ≡ Point → ⊥) × (Edge ≡ Point → ⊥)
+  -- the area is 0 exactly where the kind is not G
+  pub area : (r : Rect) → nonempty r ≡ true → (areaOf r ≡ 0) ↔ (kindOf r ≡ Ground → ⊥)
+  -- the letters G, E and P, as bytes
+  pub letters : (letterOf Ground ≡ 71) × (letterOf Edge ≡ 69) × (letterOf Point ≡ 80)
 
 -- 02, Q-4: a rectangle "grown by its margin on all four sides"
 pub record Growing : Type 0 where

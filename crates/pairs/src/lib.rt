@@ -105,7 +105,7 @@ fn apart_from(
     while j < sizes.len() {
         let size = sizes[j] as usize;
         let other = rect_in(cells, start, size, row[j] as usize);
-        let Meeting::Common(_) = meet(r, other) else {
+        let Meeting::Common(_, _) = meet(r, other) else {
             return j;
         };
         start += size;

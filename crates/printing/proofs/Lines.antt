@@ -7,6 +7,8 @@ use native.Mathlib.Omega.{arith}
 use lib.ListN.{length, length-append}
 use Rattle.totals.specs.declared.Total.{Total}
 use Rattle.totals.specs.Totals.{valueOf}
+use Rattle.geometry.specs.declared.Kind.{Kind}
+use Rattle.geometry.specs.Rectangles.{letterOf}
 use Rattle.decimal.specs.Numerals.{digits, decimal}
 use Rattle.decimal.proofs.Numerals.{length-decimal, size-most}
 use Rattle.plan.specs.Plan.{Layer}
@@ -20,10 +22,14 @@ numbers-first [] fs = refl
 numbers-first (n ∷ ns) fs =
     ap (λ (l : List ℕ). 9 ∷ l) (ap (λ (l : List ℕ). decimal n ++ l) (numbers-first ns fs) ∙ sym (append-assoc (decimal n) (tabbed ns) (fieldsEnd fs)))
 
-pub row-parts : (layer : ℕ) (row : List ℕ) (area : ℕ)
-    → fieldsEnd (rowFields layer row area) ≡ (9 ∷ decimal layer) ++ (tabbed row ++ fieldsEnd (decimal area ∷ []))
+pub row-parts : (layer : ℕ) (row : List ℕ) (area : ℕ) (kind : Kind)
+    → fieldsEnd (rowFields layer row area kind) ≡ (9 ∷ decimal layer) ++ (tabbed row ++ fieldsEnd (decimal area ∷ (letterOf kind ∷ []) ∷ []))
 unfolding rowFields
-row-parts layer row area = ap (λ (l : List ℕ). (9 ∷ decimal layer) ++ l) (numbers-first row (decimal area ∷ []))
+row-parts layer row area kind = ap (λ (l : List ℕ). (9 ∷ decimal layer) ++ l) (numbers-first row (decimal area ∷ (letterOf kind ∷ []) ∷ []))
+
+-- the last field of a row, given the letter
+pub letter-of : (kind : Kind) (byte : ℕ) → byte ≡ letterOf kind → fieldsEnd ((letterOf kind ∷ []) ∷ []) ≡ 9 ∷ byte ∷ 10 ∷ []
+letter-of kind byte e = rw e
 
 -- the point and two decimals, given the digits
 pub decimals-of : (h tenths last : ℕ) → tenths ≡ 48 + h / 10 % 10 → last ≡ 48 + h % 10 → 46 ∷ digits 2 h ≡ 46 ∷ tenths ∷ last ∷ []
@@ -51,18 +57,18 @@ tabbed-few : (ns r : List ℕ) → length (tabbed ns ++ r) ≤ 21 * length ns + 
 tabbed-few [] r = omega arith
 tabbed-few (n ∷ ns) r = rw (append-assoc (decimal n) (tabbed ns) r) (omega (arith, length-append (decimal n) (tabbed ns ++ r), few n, tabbed-few ns r))
 
-row-few : (layer : ℕ) (row : List ℕ) (area : ℕ) → length (lineOf ROW (rowFields layer row area)) ≤ 46 + 21 * length row
+row-few : (layer : ℕ) (row : List ℕ) (area : ℕ) (kind : Kind) → length (lineOf ROW (rowFields layer row area kind)) ≤ 48 + 21 * length row
 unfolding lineOf
-row-few layer row area =
-    let end = fieldsEnd (decimal area ∷ []) in
-    let e : length end ≤ 22 = field-few (decimal area) (10 ∷ []) 20 1 (few area) (omega arith) in
-    let n : length (tabbed row ++ end) ≤ 21 * length row + 22 = omega (arith, tabbed-few row end, e) in
-    rw (row-parts layer row area) (omega (arith, field-few (decimal layer) (tabbed row ++ end) 20 (21 * length row + 22) (few layer) n))
+row-few layer row area kind =
+    let end = fieldsEnd (decimal area ∷ (letterOf kind ∷ []) ∷ []) in
+    let e : length end ≤ 24 = field-few (decimal area) (9 ∷ letterOf kind ∷ 10 ∷ []) 20 3 (few area) (omega arith) in
+    let n : length (tabbed row ++ end) ≤ 21 * length row + 24 = omega (arith, tabbed-few row end, e) in
+    rw (row-parts layer row area kind) (omega (arith, field-few (decimal layer) (tabbed row ++ end) 20 (21 * length row + 24) (few layer) n))
 
-row-line-few : (ls : List Layer) (row : List ℕ) → length (rowLine ls row) ≤ 46 + 21 * length row
-row-line-few ls row = row-few _ row _
+row-line-few : (ls : List Layer) (row : List ℕ) → length (rowLine ls row) ≤ 48 + 21 * length row
+row-line-few ls row = row-few _ row _ _
 
-pub rows-few : (ls : List Layer) (rows : List (List ℕ)) → length (rowLines ls rows) ≤ 46 * length rows + 21 * length (cellsOf rows)
+pub rows-few : (ls : List Layer) (rows : List (List ℕ)) → length (rowLines ls rows) ≤ 48 * length rows + 21 * length (cellsOf rows)
 rows-few ls [] = omega arith
 rows-few ls (row ∷ rows) =
     omega (arith, length-append (rowLine ls row) (rowLines ls rows), row-line-few ls row, length-append row (cellsOf rows), rows-few ls rows)

@@ -15,7 +15,7 @@ use Rattle.rows.specs.declared.Ground.{Ground}
 use Rattle.rows.specs.declared.Sharing.{Sharing}
 use Rattle.rows.specs.declared.Sharing.the-variants.{Nothing, Shared}
 use Rattle.rows.specs.Grounds.{groundOf}
-use Rattle.rows.proofs.Answers.{ground-none, ground-small, ground-layer, ground-area}
+use Rattle.rows.proofs.Answers.{ground-none, ground-small, ground-layer, ground-area, ground-kind}
 use Rattle.rows.specs.RowCall.{isRow}
 use Rattle.paging.specs.Theorems.{rowsIn}
 use Rattle.paging.specs.TableRows.{TableRows}
@@ -34,10 +34,10 @@ module _ (ls : List Layer) (row : List ℕ) (r : Sharing) (e : r ≡ groundOf ls
 
   -- the row's line is made of what it tells
   module _ (g : Ground) (f : r ≡ Shared g) (area : ℕ) (a : area ≡ areaOf (g .common)) where
-    pub row-told : rowLine ls row ≡ lineOf ROW (rowFields (g .guard + 1) row area)
-    row-told = rw (ground-layer ls row g (sym f ∙ e), ground-area ls row g (sym f ∙ e) area a)
+    pub row-told : rowLine ls row ≡ lineOf ROW (rowFields (g .guard + 1) row area (g .kind))
+    row-told = rw (ground-layer ls row g (sym f ∙ e), ground-area ls row g (sym f ∙ e) area a, ground-kind ls row g (sym f ∙ e))
 
-    pub row-room : (buf : List ℕ) (at : ℕ) → FitsAt buf at (rowLine ls row) → FitsAt buf at (lineOf ROW (rowFields (g .guard + 1) row area))
+    pub row-room : (buf : List ℕ) (at : ℕ) → FitsAt buf at (rowLine ls row) → FitsAt buf at (lineOf ROW (rowFields (g .guard + 1) row area (g .kind)))
     row-room buf at h = rw row-told at h
 
 -- its guard is in one of at most six layers

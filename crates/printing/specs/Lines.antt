@@ -4,8 +4,10 @@ use Prim.Native.Nat.{ℕ, suc, _+_, _/_}
 use Rattle.totals.specs.declared.Total.{Total}
 use Rattle.totals.specs.Totals.{valueOf}
 use Rattle.decimal.specs.Numerals.{digits, decimal}
+use Rattle.geometry.specs.declared.Kind.{Kind}
+use Rattle.geometry.specs.Rectangles.{letterOf}
 use Rattle.plan.specs.Plan.{Layer}
-use Rattle.join.specs.Join.{rects, areaIn, guardLayer}
+use Rattle.join.specs.Join.{rects, areaIn, kindIn, guardLayer}
 
 -- ---- lines
 -- the fields behind a line's word, each behind its tab, and the byte that ends the line
@@ -27,13 +29,14 @@ TOTAL = 84 ∷ 79 ∷ 84 ∷ 65 ∷ 76 ∷ []
 abbrev pub REFUSED : List ℕ
 REFUSED = 82 ∷ 69 ∷ 70 ∷ 85 ∷ 83 ∷ 69 ∷ 68 ∷ []
 
--- ---- 01: "For each row it prints ROW, the guard's layer, the k places, the area in square millimetres."
-unfoldable pub rowFields : (layer : ℕ) (places : List ℕ) (area : ℕ) → List (List ℕ)
-rowFields layer places area = decimal layer ∷ (map decimal places ++ decimal area ∷ [])
+-- ---- 01: "For each row it prints ROW, the guard's layer, the k places, the area in square millimetres." 02, Q-7: "Each ROW line ends with the kind of the
+-- row's common ground as one more field."
+unfoldable pub rowFields : (layer : ℕ) (places : List ℕ) (area : ℕ) → Kind → List (List ℕ)
+rowFields layer places area kind = decimal layer ∷ (map decimal places ++ decimal area ∷ (letterOf kind ∷ []) ∷ [])
 
 -- layers are numbered from 1
 abbrev pub rowLine : List Layer → List ℕ → List ℕ
-rowLine ls row = lineOf ROW (rowFields (suc (guardLayer (rects ls row))) row (areaIn ls row))
+rowLine ls row = lineOf ROW (rowFields (suc (guardLayer (rects ls row))) row (areaIn ls row) (kindIn ls row))
 
 abbrev pub rowLines : List Layer → List (List ℕ) → List ℕ
 rowLines ls [] = []

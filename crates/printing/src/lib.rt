@@ -1,6 +1,9 @@
 // The lines of the report, put into a buffer at a place (01, "The report"): a row's, the total, a refusal.
 use decimal::put_decimal;
 use decimal::put_word;
+use geometry::Kind;
+use geometry::area;
+use geometry::letter;
 use rows::Sharing;
 use rows::row_at;
 use rows::row_ground;
@@ -11,6 +14,7 @@ ghost use mathlib.Core.List.{[], _∷_, _++_};
 ghost use Prim.Native.Nat.{_+_, _%_, _≤_};
 ghost use lib.ListN.{length, take};
 ghost use Rattle.decimal.specs.Numerals.{digits, decimal};
+ghost use Rattle.geometry.specs.Rectangles.{letterOf};
 ghost use Rattle.lists.specs.Stores.{Put};
 ghost use Rattle.plan.specs.Plan.{layersOf};
 ghost use Rattle.plan.specs.Frames.{Framed};
@@ -61,31 +65,49 @@ fn put_last(buf: &mut [u8], at: usize, n: u64) -> usize
     end_line(buf, a)
 }
 
+// A ROW line from its kind on; the place behind it.
+fn put_kind(buf: &mut [u8], at: usize, kind: Kind) -> usize
+    requires { ⌜ FitsAt (now buf) at (fieldsEnd ((letterOf kind ∷ []) ∷ [])) ⌝ }
+    ensures { λ r. ⌜ Put (now (buf .entry)) at (fieldsEnd ((letterOf kind ∷ []) ∷ [])) (now (buf .exit)) r ⌝ }
+{
+    let byte = letter(kind);
+    put_word(buf, at, &[b'\t', byte, b'\n'])
+}
+
+// A ROW line from its area on; the place behind it.
+fn put_ground(buf: &mut [u8], at: usize, area: u64, kind: Kind) -> usize
+    requires { ⌜ FitsAt (now buf) at (fieldsEnd (decimal area ∷ (letterOf kind ∷ []) ∷ [])) ⌝ }
+    ensures { λ r. ⌜ Put (now (buf .entry)) at (fieldsEnd (decimal area ∷ (letterOf kind ∷ []) ∷ [])) (now (buf .exit)) r ⌝ }
+{
+    let a = put_field(buf, at, area);
+    put_kind(buf, a, kind)
+}
+
 // A ROW line from its places on; the place behind it.
-fn put_places(buf: &mut [u8], at: usize, row: &[u32], area: u64) -> usize
-    requires { ⌜ FitsAt (now buf) at (tabbed (now row) ++ fieldsEnd (decimal area ∷ [])) ⌝ }
-    ensures { λ r. ⌜ Put (now (buf .entry)) at (tabbed (now (row .entry)) ++ fieldsEnd (decimal area ∷ [])) (now (buf .exit)) r ⌝ }
+fn put_places(buf: &mut [u8], at: usize, row: &[u32], area: u64, kind: Kind) -> usize
+    requires { ⌜ FitsAt (now buf) at (tabbed (now row) ++ fieldsEnd (decimal area ∷ (letterOf kind ∷ []) ∷ [])) ⌝ }
+    ensures { λ r. ⌜ Put (now (buf .entry)) at (tabbed (now (row .entry)) ++ fieldsEnd (decimal area ∷ (letterOf kind ∷ []) ∷ [])) (now (buf .exit)) r ⌝ }
 {
     let a = put_fields(buf, at, row);
-    put_last(buf, a, area)
+    put_ground(buf, a, area, kind)
 }
 
 // A ROW line from its layer on; the place behind it.
-fn put_layer(buf: &mut [u8], at: usize, layer: u32, row: &[u32], area: u64) -> usize
-    requires { ⌜ FitsAt (now buf) at (fieldsEnd (rowFields layer (now row) area)) ⌝ }
-    ensures { λ r. ⌜ Put (now (buf .entry)) at (fieldsEnd (rowFields layer (now (row .entry)) area)) (now (buf .exit)) r ⌝ }
+fn put_layer(buf: &mut [u8], at: usize, layer: u32, row: &[u32], area: u64, kind: Kind) -> usize
+    requires { ⌜ FitsAt (now buf) at (fieldsEnd (rowFields layer (now row) area kind)) ⌝ }
+    ensures { λ r. ⌜ Put (now (buf .entry)) at (fieldsEnd (rowFields layer (now (row .entry)) area kind)) (now (buf .exit)) r ⌝ }
 {
     let a = put_field(buf, at, layer as u64);
-    put_places(buf, a, row, area)
+    put_places(buf, a, row, area, kind)
 }
 
 // A ROW line; the place behind it.
-fn put_row(buf: &mut [u8], at: usize, layer: u32, row: &[u32], area: u64) -> usize
-    requires { ⌜ FitsAt (now buf) at (lineOf ROW (rowFields layer (now row) area)) ⌝ }
-    ensures { λ r. ⌜ Put (now (buf .entry)) at (lineOf ROW (rowFields layer (now (row .entry)) area)) (now (buf .exit)) r ⌝ }
+fn put_row(buf: &mut [u8], at: usize, layer: u32, row: &[u32], area: u64, kind: Kind) -> usize
+    requires { ⌜ FitsAt (now buf) at (lineOf ROW (rowFields layer (now row) area kind)) ⌝ }
+    ensures { λ r. ⌜ Put (now (buf .entry)) at (lineOf ROW (rowFields layer (now (row .entry)) area kind)) (now (buf .exit)) r ⌝ }
 {
     let a = put_word(buf, at, b"ROW");
-    put_layer(buf, a, layer, row, area)
+    put_layer(buf, a, layer, row, area, kind)
 }
 
 // The ROW line of a row of the first k layers' join; the place behind it.
@@ -106,7 +128,8 @@ fn put_joined(
         Sharing::Nothing => at,
         Sharing::Shared(g) => {
             let layer = g.guard + 1;
-            put_row(buf, at, layer, row, geometry::area(g.common))
+            let kind = g.kind;
+            put_row(buf, at, layer, row, area(g.common), kind)
         }
     }
 }

@@ -2,15 +2,17 @@
 use mathlib.Core.List.{List, [], _∷_}
 use mathlib.Core.Bool.{Bool, true, false, cond, _&&_}
 use Prim.Native.Nat.{ℕ, suc}
-use lib.IntN.{ℤ}
+use lib.IntN.{ℤ, pos}
 use lib.Dec.{ltb}
-use Rattle.geometry.specs.Rectangles.{nonempty}
+use Rattle.geometry.specs.Rectangles.{nonempty, letterOf}
 use Rattle.plan.specs.declared.Shape.{Shape}
 use Rattle.plan.specs.Causes.{onCause}
 use Rattle.plan.specs.Plan.{Layer, layers, planCause}
 use Rattle.rows.specs.declared.RowAnswer.{RowAnswer}
 use Rattle.rows.specs.declared.RowAnswer.the-variants.{Refused, NoRow, Row}
-use Rattle.join.specs.Join.{rects, commonOf, areaIn, guardLayer}
+use Rattle.rows.specs.declared.CommonAnswer.{CommonAnswer}
+use Rattle.rows.specs.declared.CommonAnswer.the-variants as told
+use Rattle.join.specs.Join.{rects, commonOf, areaIn, kindIn, guardLayer}
 use Rattle.join.specs.Table.{sizesIn}
 
 -- one place for each size, below it
@@ -38,3 +40,21 @@ abbrev pub rowValues : RowAnswer → RowValues
 rowValues (Refused cause) = record { number = cause; layer = 0; area = 0 }
 rowValues NoRow = record { number = 0; layer = 0; area = 0 }
 rowValues (Row layer area) = record { number = 0; layer = layer; area = area }
+
+-- ---- the call for a row's common ground (02, Q-7), with the checks of the row call
+unfoldable pub commonCall : Shape → List ℤ → List ℕ → CommonAnswer
+commonCall s cells row = let ls = layers s cells in onCause (planCause s cells) (cond (isRow ls row) (told.Common (commonOf (rects ls row)) (kindIn ls row)) told.NoRow) (λ n. told.Refused n)
+
+-- the number and values of each answer: the cause or 0, the letter of the kind and the four sides. Kind 0 is the mark of no row
+pub record CommonValues : Type 0 where
+  pub number : ℕ
+  pub kind : ℕ
+  pub left : ℤ
+  pub bottom : ℤ
+  pub right : ℤ
+  pub top : ℤ
+
+abbrev pub commonValues : CommonAnswer → CommonValues
+commonValues (told.Refused cause) = record { number = cause; kind = 0; left = pos 0; bottom = pos 0; right = pos 0; top = pos 0 }
+commonValues told.NoRow = record { number = 0; kind = 0; left = pos 0; bottom = pos 0; right = pos 0; top = pos 0 }
+commonValues (told.Common r k) = record { number = 0; kind = letterOf k; left = r .left; bottom = r .bottom; right = r .right; top = r .top }

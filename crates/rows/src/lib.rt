@@ -1,4 +1,5 @@
 // Rows: what lent cells name in the table of a plan (01: the row call), and what the rectangles of a row have in common.
+use geometry::Kind;
 use geometry::Meeting;
 use geometry::Rect;
 use geometry::area;
@@ -11,13 +12,14 @@ use plan::plan_cause;
 use plan::rect_at;
 ghost use mathlib.Core.Path.{_≡_};
 ghost use mathlib.Core.Bool.{true};
+ghost use mathlib.Core.List.{[], _∷_};
 ghost use Prim.Native.Nat.{_+_, _*_, _<_, _≤_};
 ghost use lib.ListN.{length, take, drop};
 ghost use Rattle.plan.specs.Plan.{rectAt, layersOf};
 ghost use Rattle.plan.specs.Frames.{Framed};
 ghost use Rattle.join.specs.Join.{rects};
-ghost use Rattle.rows.specs.RowCall.{fits, rowCall};
-ghost use Rattle.rows.specs.Grounds.{takeIn, sharedBy, groundOf, rowTold};
+ghost use Rattle.rows.specs.RowCall.{fits, rowCall, commonCall};
+ghost use Rattle.rows.specs.Grounds.{takeIn, sharedBy, groundOf, rowNamed, planNamed};
 
 // What the row call answers.
 pub enum RowAnswer {
@@ -27,9 +29,18 @@ pub enum RowAnswer {
     Row(u32, u64),
 }
 
-// What the first rectangles of a row have in common, and the layer, from 0, of their left guard.
+// What the call for a row's common ground answers.
+pub enum CommonAnswer {
+    Refused(u32),
+    NoRow,
+    // The common rectangle and its kind.
+    Common(Rect, Kind),
+}
+
+// What the first rectangles of a row have in common, its kind, and the layer, from 0, of their left guard.
 pub struct Ground {
     pub common: Rect,
+    pub kind: Kind,
     pub guard: u32,
 }
 
@@ -38,28 +49,61 @@ pub enum Sharing {
     Shared(Ground),
 }
 
+// What cells name in a plan that may be refused.
+pub enum Named {
+    Refused(u32),
+    Nothing,
+    Row(Ground),
+}
+
 // What the lent cells name in the table of a plan.
 pub fn row(shape: Shape, cells: &[i32], places: &[u32]) -> RowAnswer
     ensures { λ r. ⌜ r ≡ rowCall shape (now (cells .entry)) (now (places .entry)) ⌝ }
 {
+    match plan_named(shape, cells, places) {
+        Named::Refused(cause) => RowAnswer::Refused(cause),
+        Named::Nothing => RowAnswer::NoRow,
+        Named::Row(g) => RowAnswer::Row(g.guard + 1, area(g.common)),
+    }
+}
+
+// The common ground of the row that the lent cells name in the table of a plan.
+pub fn row_common(shape: Shape, cells: &[i32], places: &[u32]) -> CommonAnswer
+    ensures { λ r. ⌜ r ≡ commonCall shape (now (cells .entry)) (now (places .entry)) ⌝ }
+{
+    match plan_named(shape, cells, places) {
+        Named::Refused(cause) => CommonAnswer::Refused(cause),
+        Named::Nothing => CommonAnswer::NoRow,
+        Named::Row(g) => {
+            let common = g.common;
+            let kind = g.kind;
+            CommonAnswer::Common(common, kind)
+        }
+    }
+}
+
+// The ground of the row that the cells name in a plan, which is checked and grown.
+fn plan_named(shape: Shape, cells: &[i32], places: &[u32]) -> Named
+    ensures { λ r. ⌜ r ≡ planNamed shape (now (cells .entry)) (now (places .entry)) ⌝ }
+{
     let cause = plan_cause(shape, cells);
     if cause != 0 {
-        return RowAnswer::Refused(cause);
+        return Named::Refused(cause);
     }
     let mut run = [0i32; MOST_CELLS];
     grow_plan(shape, cells, &mut run);
     let n = cells.len();
-    row_told(&shape.sizes, shape.k as usize, &run[..n], places)
+    row_named(&shape.sizes, shape.k as usize, &run[..n], places)
 }
 
-// What the cells name among the first k layers of a sound plan.
-fn row_told(sizes: &[u32], k: usize, cells: &[i32], places: &[u32]) -> RowAnswer
+// The same among the first k layers of a sound plan.
+fn row_named(sizes: &[u32], k: usize, cells: &[i32], places: &[u32]) -> Named
     requires { ⌜ (k ≤ length (now sizes)) × Framed (take k (now sizes)) (now cells) ⌝ }
-    ensures { λ r. ⌜ r ≡ rowTold (layersOf (take k (now (sizes .entry))) (now (cells .entry))) (now (places .entry)) ⌝ }
+    ensures { λ r. ⌜ r ≡ rowNamed (layersOf (take k (now (sizes .entry))) (now (cells .entry))) (now (places .entry)) ⌝ }
 {
     match row_ground(sizes, k, cells, places) {
-        Sharing::Nothing => RowAnswer::NoRow,
-        Sharing::Shared(g) => RowAnswer::Row(g.guard + 1, area(g.common)),
+        Sharing::Nothing => Named::Nothing,
+        Sharing::Shared(g) => Named::Row(g),
     }
 }
 
@@ -114,11 +158,10 @@ fn share(sizes: &[u32], cells: &[i32], row: &[u32]) -> Sharing
     ensures { λ r. ⌜ r ≡ sharedBy (rects (layersOf (now (sizes .entry)) (now (cells .entry))) (now (row .entry))) ⌝ }
 {
     let mut start = sizes[0] as usize;
-    let first = rect_in(cells, 0, start, row[0] as usize);
-    let mut g = Ground {
-        common: first,
-        guard: 0,
+    let Sharing::Shared(first) = alone(rect_in(cells, 0, start, row[0] as usize)) else {
+        return Sharing::Nothing;
     };
+    let mut g = first;
     let mut j = 1;
     while j < sizes.len() {
         let size = sizes[j] as usize;
@@ -133,16 +176,34 @@ fn share(sizes: &[u32], cells: &[i32], row: &[u32]) -> Sharing
     Sharing::Shared(g)
 }
 
+// The ground of one rectangle: what it has in common with itself.
+fn alone(r: Rect) -> Sharing
+    ensures { λ v. ⌜ v ≡ sharedBy (r ∷ []) ⌝ }
+{
+    let Meeting::Common(common, kind) = meet(r, r) else {
+        return Sharing::Nothing;
+    };
+    Sharing::Shared(Ground {
+        common,
+        kind,
+        guard: 0,
+    })
+}
+
 // The ground with the rectangle of one layer more.
 fn take_in(g: Ground, r: Rect, layer: u32) -> Sharing
     ensures { λ v. ⌜ v ≡ takeIn g r layer ⌝ }
 {
     let c = g.common;
-    let Meeting::Common(common) = meet(c, r) else {
+    let Meeting::Common(common, kind) = meet(c, r) else {
         return Sharing::Nothing;
     };
     let guard = if c.left < r.left { layer } else { g.guard };
-    Sharing::Shared(Ground { common, guard })
+    Sharing::Shared(Ground {
+        common,
+        kind,
+        guard,
+    })
 }
 
 // The rectangle at a place of the layer that begins after `start` rectangles.

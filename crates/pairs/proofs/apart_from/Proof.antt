@@ -78,7 +78,7 @@ loop-again c =
     let k = c .before .before in
     let l = k .before .before .before .before .before in
     let s = l .before .before .before in
-    met-more _ _ _ _ _ _ _ _ (l .loop .inv) (s .pre .1 .0) (k .before .before .before .before .loop-test .taken) _ (k .before .rect-in .ensures) (meeting-common _ _ _ (k .meet .ensures) _ (c .enum-told .given .1) .0)
+    met-more _ _ _ _ _ _ _ _ (l .loop .inv) (s .pre .1 .0) (k .before .before .before .before .loop-test .taken) _ (k .before .rect-in .ensures) (meeting-common _ _ _ (k .meet .ensures) _ _ (c .enum-told .given .1) .0)
 
 returns-2 : tie.Need-returns-2 Inv-loop μ-loop
 returns-2 c = met-all _ _ _ _ _ _ _ _ (c .before .loop .inv) (c .loop-test .left)

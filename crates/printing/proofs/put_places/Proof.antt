@@ -1,4 +1,4 @@
--- `put_places` puts the places and the area.
+-- `put_places` puts the places and what is behind them.
 use borrow.Author.Needs.{needs}
 use Rattle.printing.proofs.Puts.{room-first, room-second, put-both}
 use Rattle.printing.proofs.put_places.Statement.{statement}
@@ -7,8 +7,8 @@ use Rattle.printing.proofs.put_places.Tie as tie
 put-fields-requires : tie.Need-put-fields-requires
 put-fields-requires c κs = search room-first
 
-put-last-requires : tie.Need-put-last-requires
-put-last-requires c κs = search room-second
+put-ground-requires : tie.Need-put-ground-requires
+put-ground-requires c κs = search room-second
 
 same-length : tie.Need-same-length
 same-length c = search needs
@@ -17,4 +17,4 @@ returns : tie.Need-returns
 returns c = search put-both
 
 pub put-places-spec : {M : Type 1} → statement M
-put-places-spec = tie.close (tie.spec put-fields-requires put-last-requires same-length returns)
+put-places-spec = tie.close (tie.spec put-fields-requires put-ground-requires same-length returns)

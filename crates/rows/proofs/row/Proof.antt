@@ -1,66 +1,47 @@
--- `rows::row`: a plan that the checks refuse, and one that they let through, grown.
+-- `rows::row`: the guard's layer and the area of what the cells name.
 use borrow.Author.Needs.{needs}
-use mathlib.Core.Path.{sym, ap, _∙_}
-use mathlib.Core.List.{List}
-use lib.IntN.{ℤ}
-use Rattle.plan.specs.Plan.{Typed, Sound, layersOf, sizesOf}
-use Rattle.plan.proofs.Growing.{part-long, part-framed}
-use Rattle.rows.specs.Grounds.{rowTold}
-use Rattle.rows.proofs.Answers.{row-refused, row-accepted}
+use mathlib.Core.Path.{sym, _∙_}
+use native.Mathlib.Omega.{arith}
+use Rattle.plan.specs.Plan.{Typed}
+use Rattle.rows.proofs.Answers.{row-is, row-some, named-small}
 use Rattle.rows.proofs.row.Statement.{statement}
 use Rattle.rows.proofs.row.Tie as tie
 
-typed : (c : tie.Start) → Typed (c .args .t1)
+typed : (c : tie.Start) → Typed (c .args .shape)
 typed c = record { sizes = search needs; margins = search needs }
 
-sound : (c : tie.Else1) → Sound (c .before .before .before .args .t1) (c .before .before .before .args .cells .now)
-sound c = record { typed = typed (c .before .before .before); passed = sym (c .before .plan-cause .ensures) ∙ c .if1 .left }
+plan-named-requires : tie.Need-plan-named-requires
+plan-named-requires c κs = search needs
 
-plan-cause-requires : tie.Need-plan-cause-requires
-plan-cause-requires c κs = search needs
+enum-known-cause : tie.Need-enum-known-cause
+enum-known-cause c = search needs
+
+enum-told : tie.Need-enum-told
+enum-told c = search needs
+
+enum-known-g : tie.Need-enum-known-g
+enum-known-g c = search needs
+
+add-t8 : tie.Need-add-t8
+add-t8 c =
+    let k = c .before .before in
+    let s = k .before .before .before .before in
+    let a = s .args in
+    omega (arith, named-small (a .shape) (a .cells .now) (a .places .now) _ (typed s) (sym (k .g .given .1) ∙ k .before .before .plan-named .ensures))
+
+area-requires : tie.Need-area-requires
+area-requires c κs = search needs
 
 returns : tie.Need-returns
-returns c =
-    let a = c .before .before .before .args in row-refused (a .t1) (a .cells .now) (a .places .now) _ (c .before .plan-cause .ensures) (c .if1 .taken)
-
-slice-aggregate-grow-plan : tie.Need-slice-aggregate-grow-plan
-slice-aggregate-grow-plan c = search needs
-
-grow-plan-requires : tie.Need-grow-plan-requires
-grow-plan-requires c κs = search needs
-
-cast-row-told : tie.Need-cast-row-told
-cast-row-told c = search needs
-
-array-share-prefix-run : tie.Need-array-share-prefix-run
-array-share-prefix-run c = search needs
-
-slice-aggregate-row-told : tie.Need-slice-aggregate-row-told
-slice-aggregate-row-told c = let g : tie.After-grow-plan = search needs in part-long _ _ _ (g .grow-plan .ensures)
-
-row-told-requires : tie.Need-row-told-requires
-row-told-requires c κs =
-    let g : tie.After-grow-plan = search needs in
-    let e : tie.Else1 = search needs in
-    part-framed _ _ _ (g .grow-plan .ensures) (sound e)
+returns c = row-is _ _ _ _ (sym (c .before .cause .given .1) ∙ c .before .before .before .plan-named .ensures)
 
 returns-2 : tie.Need-returns-2
-returns-2 c =
-    let g : tie.After-grow-plan = search needs in
-    let e : tie.Else1 = search needs in
-    let a = e .before .before .before .args in
-    row-accepted (a .t1) (a .cells .now) (a .places .now) _ (sound e) (c .row-told .ensures ∙ ap (λ (l : List ℤ). rowTold (layersOf (sizesOf (a .t1)) l) (a .places .now)) (g .grow-plan .ensures .is))
+returns-2 c = row-is _ _ _ _ (sym (c .enum-told .given .1) ∙ c .before .before .plan-named .ensures)
+
+returns-3 : tie.Need-returns-3
+returns-3 c =
+    let k = c .before .before .before in
+    row-some _ _ _ _ (sym (k .g .given .1) ∙ k .before .before .plan-named .ensures) _ (c .area .ensures)
 
 pub row-spec : {M : Type 1} → statement M
-row-spec =
-    tie.close
-    (tie.spec
-    plan-cause-requires
-    returns
-    slice-aggregate-grow-plan
-    grow-plan-requires
-    cast-row-told
-    array-share-prefix-run
-    slice-aggregate-row-told
-    row-told-requires
-    returns-2)
+row-spec = tie.close (tie.spec plan-named-requires enum-known-cause enum-told enum-known-g add-t8 area-requires returns returns-2 returns-3)

@@ -7,7 +7,7 @@ use native.Mathlib.Omega.{arith}
 use lib.ListN.{length}
 use Rattle.rows.proofs.RowCall.{fits-long}
 use Rattle.rows.proofs.Layers.{first-reads, sum-next, next-reads}
-use Rattle.rows.proofs.Grounds.{Through, through-first, through-more, through-stop, through-last}
+use Rattle.rows.proofs.Grounds.{Through, through-none, through-first, through-more, through-stop, through-last}
 use Rattle.rows.proofs.share.Statement.{statement}
 use Rattle.rows.proofs.share.Tie as tie
 
@@ -36,8 +36,26 @@ rect-in-requires : tie.Need-rect-in-requires Inv-loop μ-loop
 rect-in-requires c κs =
     let s = c .before .before .before .before in first-reads (s .args .sizes .now) (s .args .cells .now) (s .args .row .now) (s .pre .0) (s .pre .1)
 
+alone-requires : tie.Need-alone-requires Inv-loop μ-loop
+alone-requires c κs = search needs
+
+enum-known-first : tie.Need-enum-known-first Inv-loop μ-loop
+enum-known-first c = search needs
+
+enum-told : tie.Need-enum-told Inv-loop μ-loop
+enum-told c = search needs
+
+returns : tie.Need-returns Inv-loop μ-loop
+returns c =
+    let k = c .before .before in
+    let s = k .before .before .before .before .before .before in
+    absurd (through-none _ _ _ _ (s .pre .0) (s .pre .1) (k .before .rect-in .ensures) (sym (c .enum-told .given .1) ∙ k .alone .ensures))
+
 loop-holds : tie.Need-loop-holds Inv-loop μ-loop
-loop-holds c = let s = c .before .before .before .before .before in through-first _ _ _ _ (s .pre .0) (s .pre .1) (c .rect-in .ensures)
+loop-holds c =
+    let k = c .before .before .before in
+    let s = k .before .before .before .before .before .before in
+    through-first _ _ _ _ _ (s .pre .0) (s .pre .1) (k .before .rect-in .ensures) (sym (c .before .first .given .1) ∙ k .alone .ensures)
 
 mul-size : tie.Need-mul-size Inv-loop μ-loop
 mul-size c = omega arith
@@ -52,7 +70,7 @@ mul-rect-in : tie.Need-mul-rect-in Inv-loop μ-loop
 mul-rect-in c = omega arith
 
 shared-slice-read-rect-in-2 : tie.Need-shared-slice-read-rect-in-2 Inv-loop μ-loop
-shared-slice-read-rect-in-2 c = omega (arith, long (c .before .before .before .before .before .before .before .before .before))
+shared-slice-read-rect-in-2 c = omega (arith, long (c .before .before .before .before .before .before .before .before .before .before .before .before .before))
 
 cast-rect-in-2 : tie.Need-cast-rect-in-2 Inv-loop μ-loop
 cast-rect-in-2 c = omega (arith, c .shared-slice-known6 .given (c .before .before .before .loop .j))
@@ -60,12 +78,12 @@ cast-rect-in-2 c = omega (arith, c .shared-slice-known6 .given (c .before .befor
 rect-in-requires-2 : tie.Need-rect-in-requires-2 Inv-loop μ-loop
 rect-in-requires-2 c κs =
     let l = c .before .before .before in
-    let s = l .before .before .before .before .before .before in
+    let s = l .before .before .before .before .before .before .before .before .before .before in
     next-reads _ _ _ (l .loop .inv .reached) (c .before .before .loop-test .taken) _ _ (s .pre .1) (s .pre .0)
 
 cast-take-in : tie.Need-cast-take-in Inv-loop μ-loop
 cast-take-in c =
-    let s = c .before .before .before .before .before .before .before .before .before .before in omega (arith, s .pre .0 .few, c .before .before .before .loop-test .taken)
+    let s = c .before .before .before .before .before .before .before .before .before .before .before .before .before .before in omega (arith, s .pre .0 .few, c .before .before .before .loop-test .taken)
 
 take-in-requires : tie.Need-take-in-requires Inv-loop μ-loop
 take-in-requires c κs = tt
@@ -73,25 +91,28 @@ take-in-requires c κs = tt
 enum-known-next : tie.Need-enum-known-next Inv-loop μ-loop
 enum-known-next c = search needs
 
-enum-told : tie.Need-enum-told Inv-loop μ-loop
-enum-told c = search needs
+enum-told-2 : tie.Need-enum-told-2 Inv-loop μ-loop
+enum-told-2 c = search needs
 
-returns : tie.Need-returns Inv-loop μ-loop
-returns c =
+returns-2 : tie.Need-returns-2 Inv-loop μ-loop
+returns-2 c =
     let k = c .before .before in
     let l = k .before .before .before .before .before in
-    let s = l .before .before .before .before .before .before in
-    through-stop _ _ _ _ _ _ (l .loop .inv) (s .pre .1) (k .before .before .before .before .loop-test .taken) _ (k .before .rect-in2 .ensures) (sym (c .enum-told .given .1) ∙ k .take-in .ensures)
+    let s = l .before .before .before .before .before .before .before .before .before .before in
+    through-stop _ _ _ _ _ _ (l .loop .inv) (s .pre .1) (k .before .before .before .before .loop-test .taken) _ (k .before .rect-in2 .ensures) (sym (c .enum-told2 .given .1) ∙ k .take-in .ensures)
 
 add-start : tie.Need-add-start Inv-loop μ-loop
 add-start c =
     let k = c .before .before .before in
     let l = k .before .before .before .before .before in
-    let s = l .before .before .before .before .before .before in
+    let s = l .before .before .before .before .before .before .before .before .before .before in
     omega (arith, sum-next _ _ _ (l .loop .inv .reached) (k .before .before .before .before .loop-test .taken), s .pre .0 .whole)
 
 add-j : tie.Need-add-j Inv-loop μ-loop
-add-j c = omega arith
+add-j c =
+    let k = c .before .before .before in
+    let s = k .before .before .before .before .before .before .before .before .before .before .before .before .before .before .before in
+    omega (arith, s .pre .0 .few, k .before .before .before .before .loop-test .taken)
 
 loop-less : tie.Need-loop-less Inv-loop μ-loop
 loop-less c = let k = c .before .before .before in omega (arith, k .before .before .before .before .loop-test .taken)
@@ -100,11 +121,11 @@ loop-again : tie.Need-loop-again Inv-loop μ-loop
 loop-again c =
     let k = c .before .before .before in
     let l = k .before .before .before .before .before in
-    let s = l .before .before .before .before .before .before in
+    let s = l .before .before .before .before .before .before .before .before .before .before in
     through-more _ _ _ _ _ _ (l .loop .inv) (s .pre .1) (k .before .before .before .before .loop-test .taken) _ (k .before .rect-in2 .ensures) _ (sym (c .before .next .given .1) ∙ k .take-in .ensures)
 
-returns-2 : tie.Need-returns-2 Inv-loop μ-loop
-returns-2 c = through-last _ _ _ _ _ _ (c .before .loop .inv) (c .loop-test .left)
+returns-3 : tie.Need-returns-3 Inv-loop μ-loop
+returns-3 c = through-last _ _ _ _ _ _ (c .before .loop .inv) (c .loop-test .left)
 
 pub share-spec : {M : Type 1} → statement M
 share-spec =
@@ -117,6 +138,10 @@ share-spec =
     shared-slice-read-rect-in
     cast-rect-in
     rect-in-requires
+    alone-requires
+    enum-known-first
+    enum-told
+    returns
     loop-holds
     mul-size
     shared-slice-read-size
@@ -128,10 +153,10 @@ share-spec =
     cast-take-in
     take-in-requires
     enum-known-next
-    enum-told
-    returns
+    enum-told-2
+    returns-2
     add-start
     add-j
     loop-less
     loop-again
-    returns-2)
+    returns-3)

@@ -28,14 +28,14 @@ returns-2 c =
     let k = c .before .before .before .before .before .before in
     let s = k .before .before .before .before in
     let e = read-lt (fits-g s .left) (fits-r s .left) (c .if1 .taken) in
-    take-more _ _ _ _ (k .before .before .meet .ensures) _ _ (k .common .given .1) (rw e)
+    take-more _ _ _ _ (k .before .before .meet .ensures) _ _ _ (k .common .given .1) (rw e)
 
 returns-3 : tie.Need-returns-3
 returns-3 c =
     let k = c .before .before .before .before .before .before in
     let s = k .before .before .before .before in
     let e = read-lt (fits-g s .left) (fits-r s .left) (c .if1 .left) in
-    take-more _ _ _ _ (k .before .before .meet .ensures) _ _ (k .common .given .1) (rw e)
+    take-more _ _ _ _ (k .before .before .meet .ensures) _ _ _ (k .common .given .1) (rw e)
 
 pub take-in-spec : {M : Type 1} → statement M
 take-in-spec =

@@ -2,7 +2,9 @@
 
 use overlay_tests::crossings::{ClassTold, Crossings, Report};
 use overlay_tests::nearest::{Near, NearestTold};
-use overlay_tests::overlay::{Overlay, Page, PairTold, Reading, RowTold, Run, Shape, Stop, Ticket, Writing};
+use overlay_tests::overlay::{
+    CommonTold, Overlay, Page, PairTold, Reading, RowTold, Run, Shape, Stop, Ticket, Writing,
+};
 use overlay_tests::surveys::{Covered, Survey};
 
 #[link(name = "capi", kind = "static")]
@@ -41,6 +43,16 @@ extern "C" {
         places: *const u32,
         places_length: usize,
         answer: *mut u64,
+    ) -> u32;
+    fn overlay_row_common(
+        k: u32,
+        sizes: *const u32,
+        margins: *const u32,
+        cells: *const i32,
+        cells_length: usize,
+        places: *const u32,
+        places_length: usize,
+        answer: *mut i32,
     ) -> u32;
     fn overlay_nearest(
         k: u32,
@@ -334,6 +346,29 @@ impl Overlay for Library {
             )
         };
         RowTold { number, layer: small(answer[0]), area: answer[1] }
+    }
+
+    fn common(&self, shape: &Shape, cells: &[i32], row: &[u32]) -> CommonTold {
+        let mut answer = [UNWRITTEN as i32; 5];
+        // SAFETY: every pointer comes from a reference, with its length; the one written to is exclusive.
+        let number = unsafe {
+            overlay_row_common(
+                shape.k,
+                shape.sizes.as_ptr(),
+                shape.margins.as_ptr(),
+                cells.as_ptr(),
+                cells.len(),
+                row.as_ptr(),
+                row.len(),
+                answer.as_mut_ptr(),
+            )
+        };
+        let [left, bottom, right, top, kind] = answer;
+        CommonTold {
+            number,
+            sides: [left, bottom, right, top],
+            kind: kind.try_into().expect("a letter, or 0"),
+        }
     }
 
     fn pair(&self, shape: &Shape, cells: &[i32], places: &[u32]) -> PairTold {
