@@ -4,11 +4,13 @@
 //! `reference::REFERENCE`; its report is handed to `reports::compare_reports` beside
 //! `reference::report`, and its call on survey records to `surveys::compare_surveys` beside
 //! `surveys::cover_records`. All give their counts, or the first difference with the whole case.
+//! `laws::try_laws` takes the overlay under test alone.
 
 pub mod call;
 pub mod compare;
 pub mod crossings;
 pub mod known;
+pub mod laws;
 pub mod nearest;
 pub mod overlay;
 pub mod reference;

@@ -2,6 +2,7 @@
 
 use overlay_tests::compare::{compare, Tally};
 use overlay_tests::crossings::{compare_crossings, ByWords, SLIPS as CROSSING_SLIPS};
+use overlay_tests::laws::{try_laws, LAWLESS, LAWS, WRONG_LAWS};
 use overlay_tests::nearest::{compare_nearest, nearest, WRONG_NEAREST};
 use overlay_tests::reference::{report, REFERENCE};
 use overlay_tests::reports::compare_reports;
@@ -69,6 +70,22 @@ fn catch_wrong_crossings() {
     }
 }
 
+/// Every wrong statement must be shown wrong by the reference, and every lawless overlay by the laws.
+fn catch_wrong_laws() {
+    for (wrong, name) in WRONG_LAWS {
+        match try_laws(&REFERENCE, &wrong) {
+            Err(found) => println!("wrong law caught after {} cases ({}): {name}", found.cases, found.kind),
+            Ok(_) => stop(&format!("wrong law not caught: {name}")),
+        }
+    }
+    for (slip, name) in SLIPS.into_iter().filter(|(slip, _)| LAWLESS.contains(slip)) {
+        match try_laws(&Wrong(slip), &LAWS) {
+            Err(found) => println!("law broken after {} cases ({}): {name}", found.cases, found.kind),
+            Ok(_) => stop(&format!("no law broken: {name}")),
+        }
+    }
+}
+
 /// The reference must agree with itself.
 fn compare_with_itself() -> Tally {
     let mut tally = compare(&REFERENCE, &REFERENCE).unwrap_or_else(|found| stop(&found.text));
@@ -78,6 +95,7 @@ fn compare_with_itself() -> Tally {
     tally.add("surveys", surveys.unwrap_or_else(|found| stop(&found.text)));
     let crossings = compare_crossings(&ByWords(None), &ByWords(None));
     tally.add("crossings", crossings.unwrap_or_else(|found| stop(&found.text)));
+    tally.add("laws", try_laws(&REFERENCE, &LAWS).unwrap_or_else(|found| stop(&found.text)));
     tally
 }
 
@@ -88,5 +106,6 @@ fn main() {
     catch_wrong_nearest();
     catch_wrong_surveys();
     catch_wrong_crossings();
+    catch_wrong_laws();
     print!("{}", compare_with_itself());
 }

@@ -8,6 +8,7 @@ use extras::compare_extras;
 use ffi::{cover_records, Library};
 use overlay_tests::compare::compare;
 use overlay_tests::crossings::{compare_crossings, ByWords};
+use overlay_tests::laws::{try_laws, LAWS};
 use overlay_tests::nearest::{compare_nearest, nearest};
 use overlay_tests::reference::REFERENCE;
 use overlay_tests::surveys::{self, compare_surveys};
@@ -32,6 +33,8 @@ fn main() {
     tally.add("surveys", surveys.unwrap_or_else(|found| stop(&found.text, tally.cases())));
     let crossings = compare_crossings(&Library, &ByWords(None));
     tally.add("crossings", crossings.unwrap_or_else(|found| stop(&found.text, tally.cases())));
+    let laws = try_laws(&Library, &LAWS).unwrap_or_else(|found| stop(&found.text, tally.cases()));
+    tally.add("laws", laws);
     let reports = compare_program().unwrap_or_else(|found| stop(&found.text, tally.cases()));
     tally.add("report program", reports);
     print!("{tally}");

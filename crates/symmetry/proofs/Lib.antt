@@ -1,0 +1,13 @@
+pub mod Sets
+pub mod Places
+pub mod Parts
+pub mod Sheets
+pub mod Rows
+pub mod Rearranging
+pub mod Exchanges
+pub mod Arrangements
+pub mod Counted
+pub mod Pieces
+pub mod Cutting
+pub mod Runs
+pub mod Theorems
