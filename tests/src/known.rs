@@ -313,6 +313,11 @@ fn two_over(apart: i32) -> Plan {
     Plan { shape: Shape { k: 2, sizes, margins: [0; 6] }, cells }
 }
 
+/// The same rectangle in each of two layers.
+fn one_each(rect: [i32; 4]) -> Plan {
+    Plan { shape: Shape { k: 2, sizes: [1, 1, 0, 0, 0, 0], margins: [0; 6] }, cells: [rect, rect].concat() }
+}
+
 /// Whole runs: ground counted once, and each side of check 19.
 pub fn known_runs() -> Vec<KnownCall> {
     let d = || (shaped(2, 2, 1), &[0, 2, 1][..]);
@@ -327,6 +332,7 @@ pub fn known_runs() -> Vec<KnownCall> {
         ran("no work buffer", d(), (4, 0), refused(19), &[]),
         ran("7 before 19", d(), (3, 0), refused(7), &[]),
         ran("a run that 7 refuses", d(), (3, 4), refused(7), &[]),
+        ran("a run that 7 refuses, with work to spare", d(), (3, 50), refused(7), &[]),
         ran("5 before 19", (d().0, &[0, 1, 2]), (4, 0), refused(5), &[]),
         ran("no rows and no work buffer", none(), (0, 0), (0, 0, 0, 0, 0), &[]),
         ran(
@@ -357,6 +363,13 @@ pub fn known_runs() -> Vec<KnownCall> {
             // The zone that covers both is not grown: 1,250 of the first and of the second, and 500 of them under both.
             (0, 2, 4, 2 * 1250 * 1000, 2000 * 1000),
             &both,
+        ),
+        ran(
+            "ground from one end of the range to the other",
+            (grown(one_each([-1_000_000, -1_000_000, 1_000_000, 1_000_000]), &[50_000, 50_000]), &[0, 1]),
+            (2, 2),
+            (0, 1, 2, 4_410_000_000_000, 4_410_000_000_000),
+            &[0, 0],
         ),
     ]
 }

@@ -162,6 +162,7 @@ ground-holds =
     also (refl, refl, refl)
     also (refl, refl, refl)
     also (refl, refl, refl)
+    also (refl, refl, refl, refl, refl, refl, refl, tt)
     also refl
     also refl
     also refl

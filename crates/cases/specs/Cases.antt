@@ -303,6 +303,9 @@ cases =
     ∷ Listed (margined 0 10 0 2 1 1 0) (box 0 0 20 5 (box 10 0 12 5 [])) (row 1 (0 ∷ 0 ∷ []) 100 G ∷ []) 2
     -- ours: several rows of one guard in three layers, in their order
     ∷ Listed (shape 3 2 1 2) three (row 2 (0 ∷ 0 ∷ 0 ∷ []) 50 G ∷ row 2 (0 ∷ 0 ∷ 1 ∷ []) 30 G ∷ row 2 (1 ∷ 0 ∷ 0 ∷ []) 45 G ∷ row 2 (1 ∷ 0 ∷ 1 ∷ []) 27 G ∷ []) 16
+    -- ours: a page of the same plan that stops with one slot filled: the ticket of the last trial but one
+    ∷ Paged (shape 3 2 1 2) three
+    (turn 15 (7 ∷ 7 ∷ ten 7 7) Spent 3 15 125 (0 ∷ 0 ∷ 0 ∷ 0 ∷ 0 ∷ 1 ∷ 1 ∷ 0 ∷ 0 ∷ 7 ∷ 7 ∷ 7 ∷ []) (counting (record { ended = false; layer = 2; place = 0; filled = 1; chosen = 1 ∷ 0 ∷ 0 ∷ 0 ∷ 0 ∷ []; next = 1 }) 15) ∷ [])
     -- ours, of Q-5: the fresh ticket of D again, and an Ended, after more trials; a record of no cell and of two; a ticket that check 6 refuses first; 2^57 − 1
     -- and 2^57
     ∷ Judged d dCells (counting (first 1 0 0) 0) (0 ∷ []) 0

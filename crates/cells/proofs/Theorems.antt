@@ -4,10 +4,10 @@ use mathlib.Core.List.{List, [], _∷_, map, Memᴰ·map}
 use mathlib.Core.Option.{none}
 use mathlib.Core.Bool.{Bool, true, false}
 use mathlib.Core.Logic.{_↔_}
-use Prim.Native.Nat.{ℕ, zero, suc, _+_, _-_, _*_, _/_, _%_, _<_}
+use Prim.Native.Nat.{ℕ, zero, suc, _+_, _*_, _/_, _%_, _<_}
 use native.Mathlib.Omega.{arith}
 use lib.IntN.{ℤ}
-use lib.ListN.{length, take, getD}
+use lib.ListN.{length, getD}
 use lib.Ieee.{Float, le}
 use Rattle.lists.proofs.Padding.{padded-long}
 use Rattle.geometry.specs.declared.Rect.{Rect}
@@ -63,7 +63,7 @@ ticket-back t h =
 -- the cursor of what is due has five chosen places
 due-five : (ns : List ℕ) (w : List (Probe Rect)) → length (dueCursor ns w .chosen) ≡ 5
 due-five ns [] = refl
-due-five ns (t ∷ w) = padded-long 5 (take (length (t .path) - 1) (t .path))
+due-five ns (t ∷ w) = padded-long 5 (t .chosen)
 
 first : (s : Shape) (cells : List ℤ) (order counter : List ℕ) → ticketIn (ticketCells (freshCall s cells order counter .ticket)) ≡ freshCall s cells order counter .ticket
 unfolding freshCall

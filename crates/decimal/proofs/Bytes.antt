@@ -41,15 +41,12 @@ unfolding kindOf
 kind-digit b h k =
     rw (ne-eqb b 45 (λ e. omega arith), ne-eqb b 48 (λ e. omega arith), le-leb 49 b h, le-leb b 57 k)
 
-pub kind-below : (b : ℕ) → b < 48 → (b ≡ 45 → ⊥) → (b ≡ 9 → ⊥) → (b ≡ 10 → ⊥) → kindOf b ≡ Other
+pub kind-other : (b : ℕ) → (b < 48) ⊎ (57 < b) → (b ≡ 45 → ⊥) → (b ≡ 9 → ⊥) → (b ≡ 10 → ⊥) → kindOf b ≡ Other
 unfolding kindOf
-kind-below b h n₁ n₂ n₃ =
+kind-other b (inl h) n₁ n₂ n₃ =
     rw (ne-eqb b 45 n₁, ne-eqb b 48 (λ e. omega arith), lt-leb 49 b (omega arith), ne-eqb b 9 n₂, ne-eqb b 10 n₃)
-
-pub kind-above : (b : ℕ) → 57 < b → kindOf b ≡ Other
-unfolding kindOf
-kind-above b h =
-    rw (ne-eqb b 45 (λ e. omega arith), ne-eqb b 48 (λ e. omega arith), le-leb 49 b (omega arith), lt-leb b 57 h, ne-eqb b 9 (λ e. omega arith), ne-eqb b 10 (λ e. omega arith))
+kind-other b (inr h) n₁ n₂ n₃ =
+    rw (ne-eqb b 45 n₁, ne-eqb b 48 (λ e. omega arith), le-leb 49 b (omega arith), lt-leb b 57 h, ne-eqb b 9 n₂, ne-eqb b 10 n₃)
 
 pub digit-yes : (b : ℕ) → 48 ≤ b → b ≤ 57 → isDigit (kindOf b) ≡ true
 digit-yes b h k = go (total 49 b)

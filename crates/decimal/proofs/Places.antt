@@ -1,5 +1,5 @@
 -- Reading digits and numbers from a place of a text, step by step.
-use mathlib.Core.Path.{_≡_, refl, sym, ap, _∙_, subst}
+use mathlib.Core.Path.{_≡_, refl, sym, ap, _∙_}
 use mathlib.Core.List.{List, _∷_}
 use mathlib.Core.Bool.{Bool, true, false}
 use mathlib.Core.Logic.{_⊎_, inl, inr}
@@ -7,10 +7,9 @@ use Prim.Native.Nat.{ℕ, zero, suc, _+_, _-_, _*_, _^_, _≤_, _<_}
 use native.Mathlib.Nat.{pow-suc}
 use native.Mathlib.Numerals.{add-one}
 use native.Mathlib.Omega.{arith}
-use lib.Dec.{T, eqb}
 use lib.IntN.{ℤ, pos}
-use lib.ListN.{length, getD, drop, length-drop, drop-of-length-le}
-use lib.Seq.{drop-cons}
+use lib.ListN.{length, getD, drop, length-drop, drop-of-length-le, List·getD-eq-default}
+use lib.Seq.{drop-cons, getD-drop}
 use Rattle.lists.proofs.Tests.{clash, total}
 use Rattle.decimal.specs.Numerals.{mostDigits}
 use Rattle.decimal.specs.declared.Digits.{Digits}
@@ -19,14 +18,23 @@ use Rattle.decimal.specs.declared.Kind.the-variants.{Minus, Zero, Digit,
 use Rattle.decimal.specs.declared.Number.the-variants.{Value, Bad}
 use Rattle.decimal.specs.Bytes.{kindOf, isDigit}
 use Rattle.decimal.specs.Reading.{Reading, more, afterMinus, magnitude, numberAt, number}
-use Rattle.decimal.specs.Places.{digitNext, minusNext, MoreFrom, placed, magnitudeFrom, numberFrom, digitsFrom, sign, zeroAt}
+use Rattle.decimal.specs.Places.{isMinus, MoreFrom, placed, numberFrom, sign, zeroAt}
 use Rattle.decimal.proofs.Powers.{powers}
-use Rattle.decimal.proofs.Bytes.{Is, digit-is, kind-is}
+use Rattle.decimal.proofs.Bytes.{digit-is, kind-is}
 use Rattle.decimal.proofs.Reading.{stop}
 
 -- a byte stands at i
 pub at-byte : (s : List ℕ) (i : ℕ) → i < length s → drop i s ≡ getD s i 0 ∷ drop (i + 1) s
 at-byte s i h = rw (add-one, drop-cons s i 0)
+
+-- where a test of kinds passes that `Other` fails, a byte stands
+pub inside : (p : Kind → Bool) (s : List ℕ) (i : ℕ) → p Other ≡ false → p (kindOf (getD s i 0)) ≡ true → i < length s
+unfolding kindOf
+inside p s i n e = go (total (length s) i)
+  where
+    go : (length s ≤ i) ⊎ (i < length s) → i < length s
+    go (inl h) = clash e (ap (λ (b : ℕ). p (kindOf b)) (List·getD-eq-default s 0 h) ∙ n)
+    go (inr h) = h
 
 -- a digit stands at i
 pub record Next (s : List ℕ) (i : ℕ) : Type 0 where
@@ -35,15 +43,10 @@ pub record Next (s : List ℕ) (i : ℕ) : Type 0 where
   pub high : getD s i 0 ≤ 57
   pub yes : isDigit (kindOf (getD s i 0)) ≡ true
 
-pub next-digit : (s : List ℕ) (i : ℕ) → digitNext (drop i s) ≡ true → Next s i
-next-digit s i e = go (total (length s) i)
-  where
-    go : (length s ≤ i) ⊎ (i < length s) → Next s i
-    go (inl h) = absurd (subst T (sym (sym (ap digitNext (drop-of-length-le s h)) ∙ e)) tt)
-    go (inr h) =
-        let y : isDigit (kindOf (getD s i 0)) ≡ true = sym (ap digitNext (at-byte s i h)) ∙ e in
-        let d = digit-is (kindOf (getD s i 0)) (getD s i 0) y (kind-is (getD s i 0)) in
-        record { inside = h; low = d .0; high = d .1; yes = y }
+pub next-digit : (s : List ℕ) (i : ℕ) → isDigit (kindOf (getD s i 0)) ≡ true → Next s i
+next-digit s i e =
+    let d = digit-is (kindOf (getD s i 0)) (getD s i 0) e (kind-is (getD s i 0)) in
+    record { inside = inside isDigit s i refl e; low = d .0; high = d .1; yes = e }
 
 -- f digits more may come behind those read so far, and what they give is what all of them give from the start
 pub record Going (s : List ℕ) (at first value i f : ℕ) : Type 0 where
@@ -74,9 +77,11 @@ pub value-small : (value f : ℕ) → value < 10 ^ (mostDigits - f) → value < 
 value-small value f h = omega (arith, powers (mostDigits - f) mostDigits (omega arith))
 
 -- no digit comes next, or none may come
-pub ended : (s : List ℕ) (at first value i f : ℕ) → digitNext (drop i s) ≡ false → Going s at first value i f → MoreFrom s at first (record { value = value; next = i })
+pub ended : (s : List ℕ) (at first value i f : ℕ) → isDigit (kindOf (getD s i 0)) ≡ false → Going s at first value i f → MoreFrom s at first (record { value = value; next = i })
 ended s at first value i f e g =
-    record { reads = sym (g .same) ∙ stop f value (drop i s) e; inside = g .inside; small = value-small value f (g .small) }
+    let z : i + 0 ≡ i = omega arith in
+    let b : getD (drop i s) 0 0 ≡ getD s i 0 = getD-drop i s 0 0 ∙ ap (λ (j : ℕ). getD s j 0) z in
+    record { reads = sym (g .same) ∙ stop f value (drop i s) (rw b e); inside = g .inside; small = value-small value f (g .small) }
 
 pub all-read : (s : List ℕ) (at first value i f : ℕ) → f ≤ 0 → Going s at first value i f → MoreFrom s at first (record { value = value; next = i })
 all-read s at first value i f h g =
@@ -91,32 +96,6 @@ place s i h = simp length-drop (omega arith)
 abbrev pub after : Bool → Kind → ℕ → List ℕ → Reading ℤ
 after true k b t = afterMinus k b t
 after false k b t = numberAt k b t
-
-pub nothing-left : (minus : Bool) (s : List ℕ) (at : ℕ) → length s ≤ at → Bad ≡ digitsFrom minus s at
-unfolding magnitudeFrom numberFrom number
-nothing-left true s at h = sym (ap (λ (t : List ℕ). placed (length s) (magnitude t)) (drop-of-length-le s h))
-nothing-left false s at h = sym (ap (λ (t : List ℕ). placed (length s) (number t)) (drop-of-length-le s h))
-
-pub digits-at : (minus : Bool) (s : List ℕ) (at : ℕ) (k : Kind) → at < length s → kindOf (getD s at 0) ≡ k
-    → digitsFrom minus s at ≡ placed (length s) (after minus k (getD s at 0) (drop (at + 1) s))
-unfolding magnitudeFrom numberFrom number
-digits-at true s at k h e = rw (at-byte s at h, e)
-digits-at false s at k h e = rw (at-byte s at h, e)
-
-pub minus-inside : (s : List ℕ) (at : ℕ) → minusNext (drop at s) ≡ true → at < length s
-minus-inside s at e = go (total (length s) at)
-  where
-    go : (length s ≤ at) ⊎ (at < length s) → at < length s
-    go (inl h) = clash e (ap minusNext (drop-of-length-le s h))
-    go (inr h) = h
-
--- a minus is none behind a minus, and does not stand where none is said to
-pub minus-bad : (minus : Bool) (s : List ℕ) (at : ℕ) (t : List ℕ) → at < length s → kindOf (getD s at 0) ≡ Minus → (minus ≡ false → minusNext (drop at s) ≡ false) → Bad ≡ placed (length s) (after minus Minus (getD s at 0) t)
-minus-bad true s at t h e f = refl
-minus-bad false s at t h e f =
-    let b : getD s at 0 ≡ 45 = subst (λ (k : Kind). Is k (getD s at 0)) e (kind-is (getD s at 0)) in
-    let m : minusNext (drop at s) ≡ true = rw (at-byte s at h, b) in
-    clash m (f refl)
 
 pub zero-read : (minus : Bool) (s : List ℕ) (at b : ℕ) → at ≤ length s → zeroAt minus at ≡ placed (length s) (after minus Zero b (drop at s))
 zero-read true s at b h = refl
@@ -133,20 +112,46 @@ pub none-read : (minus : Bool) (n b : ℕ) (t : List ℕ)
 none-read true n b t = (refl, refl, refl)
 none-read false n b t = (refl, refl, refl)
 
-pub first-digit : (b : ℕ) → kindOf b ≡ Digit → (49 ≤ b) × (b ≤ 57)
-first-digit b e = subst (λ (k : Kind). Is k b) e (kind-is b)
+-- the byte at i, or that there is none, by its kind
+number-at : (s : List ℕ) (i : ℕ) (k : Kind) → kindOf (getD s i 0) ≡ k → number (drop i s) ≡ numberAt k (getD s i 0) (drop (i + 1) s)
+unfolding number kindOf
+number-at s i k e = go (total (length s) i)
+  where
+    go : (length s ≤ i) ⊎ (i < length s) → number (drop i s) ≡ numberAt k (getD s i 0) (drop (i + 1) s)
+    go (inl h) = rw (sym e, drop-of-length-le s {i = i} h, List·getD-eq-default s 0 {n = i} h)
+    go (inr h) = rw (sym e, at-byte s i h)
 
-behind : (s : List ℕ) (at : ℕ) → at < length s → minusNext (drop at s) ≡ true → magnitudeFrom s (at + 1) ≡ numberFrom s at
-unfolding magnitudeFrom numberFrom number kindOf
-behind s at h e = let q : eqb (getD s at 0) 45 ≡ true = sym (ap minusNext (at-byte s at h)) ∙ e in rw (at-byte s at h, q)
+magnitude-at : (s : List ℕ) (i : ℕ) (k : Kind) → kindOf (getD s i 0) ≡ k → magnitude (drop i s) ≡ afterMinus k (getD s i 0) (drop (i + 1) s)
+unfolding kindOf
+magnitude-at s i k e = go (total (length s) i)
+  where
+    go : (length s ≤ i) ⊎ (i < length s) → magnitude (drop i s) ≡ afterMinus k (getD s i 0) (drop (i + 1) s)
+    go (inl h) = rw (sym e, drop-of-length-le s {i = i} h, List·getD-eq-default s 0 {n = i} h)
+    go (inr h) = rw (sym e, at-byte s i h)
+
+minus-is : (k : Kind) → isMinus k ≡ true → k ≡ Minus
+minus-is Minus e = refl
+minus-is Zero e = clash e refl
+minus-is Digit e = clash e refl
+minus-is Tab e = clash e refl
+minus-is End e = clash e refl
+minus-is Other e = clash e refl
 
 -- a number's digits begin at i, behind its minus or at once
 abbrev pub Begins : Bool → ℕ → ℕ → Type 0
 Begins minus at i = ((minus ≡ true) × (i ≡ at + 1)) ⊎ ((minus ≡ false) × (i ≡ at))
 
-pub begins : (s : List ℕ) (at : ℕ) (minus : Bool) (i : ℕ) → minus ≡ minusNext (drop at s) → Begins minus at i
-    → (digitsFrom minus s i ≡ numberFrom s at) × (minus ≡ false → minusNext (drop i s) ≡ false)
-begins s at minus i m (inl h) =
-    let y : minusNext (drop at s) ≡ true = sym m ∙ h .0 in
-    (rw (h .0, h .1) (behind s at (minus-inside s at y) y), λ f. clash (h .0) f)
-begins s at minus i m (inr h) = (rw (h .0, h .1), λ f. rw (h .1) (sym m ∙ f))
+-- what the kind of its first digit decides
+pub begins : (s : List ℕ) (at : ℕ) (minus : Bool) (i : ℕ) (k : Kind) → minus ≡ isMinus (kindOf (getD s at 0)) → Begins minus at i → kindOf (getD s i 0) ≡ k
+    → placed (length s) (after minus k (getD s i 0) (drop (i + 1) s)) ≡ numberFrom s at
+unfolding numberFrom
+begins s at minus i k m (inl h) e =
+    rw (h .0) (ap (placed (length s)) (sym (number-at s at Minus (minus-is (kindOf (getD s at 0)) (sym m ∙ h .0)) ∙ (ap (λ (j : ℕ). magnitude (drop j s)) (sym (h .1)) ∙ magnitude-at s i k e))))
+begins s at minus i k m (inr h) e =
+    rw (h .0) (ap (placed (length s)) (sym (ap (λ (j : ℕ). number (drop j s)) (sym (h .1)) ∙ number-at s i k e)))
+
+-- a minus is none behind a minus, and does not stand where none was found
+pub minus-bad : (s : List ℕ) (at : ℕ) (minus : Bool) (i n b : ℕ) (t : List ℕ) → minus ≡ isMinus (kindOf (getD s at 0)) → Begins minus at i → kindOf (getD s i 0) ≡ Minus
+    → Bad ≡ placed n (after minus Minus b t)
+minus-bad s at minus i n b t m (inl h) e = rw (h .0)
+minus-bad s at minus i n b t m (inr h) e = clash (ap isMinus (ap (λ (j : ℕ). kindOf (getD s j 0)) (sym (h .1)) ∙ e)) (sym m ∙ h .0)

@@ -8,20 +8,20 @@ use native.Mathlib.Nat.{le-refl, pow-zero, div-one, div-le-self}
 use native.Mathlib.Omega.{arith}
 use lib.Dec.{lit≤}
 use lib.IntN.{ℤ, pos, negsuc, negℤ}
+use lib.ListN.{getD}
 use borrow.Author.Tests.{ltb-true, lt-ltb}
 use Rattle.decimal.specs.declared.Kind.{Kind}
 use Rattle.decimal.specs.declared.Kind.the-variants.{Minus, Zero, Digit, Tab, End, Other}
 use Rattle.decimal.specs.Numerals.{digits, size, decimal, numeral, mostDigits, short}
 use Rattle.decimal.specs.Bytes.{kindOf, isDigit}
 use Rattle.decimal.specs.Reading.{Reading, more, afterMinus, magnitude, numberAt, number}
-use Rattle.decimal.specs.Places.{digitNext}
 use Rattle.decimal.proofs.Powers.{tenfold, powers}
 use Rattle.decimal.proofs.Bytes.{Is, kind-is, kind-digit, digit-yes, digit-is}
 use Rattle.decimal.proofs.Numerals.{Sized, sized, sized-few, front-low, front-high, front-sized, digits-decimal}
 
 -- no digit comes next
 abbrev pub Stops : List ℕ → Type 0
-Stops t = digitNext t ≡ false
+Stops t = isDigit (kindOf (getD t 0 0)) ≡ false
 
 pub stop : (f v : ℕ) (r : List ℕ) → Stops r → more f v r ≡ (v, r)
 stop zero v r h = refl

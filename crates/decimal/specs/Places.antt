@@ -1,28 +1,27 @@
 -- Numbers read from a place of a text, as the code does: what `decimal` promises `line`; no public call's contract cites it.
 use mathlib.Core.Path.{_≡_}
-use mathlib.Core.List.{List, [], _∷_}
+use mathlib.Core.List.{List}
 use mathlib.Core.Option.{none, some}
 use mathlib.Core.Bool.{Bool, true, false}
 use Prim.Native.Nat.{ℕ, _-_, _^_, _≤_, _<_}
-use lib.Dec.{eqb}
 use lib.IntN.{ℤ, pos, negℤ}
 use lib.ListN.{length, drop}
+use Rattle.decimal.specs.declared.Kind.{Kind}
+use Rattle.decimal.specs.declared.Kind.the-variants.{Minus, Zero, Digit, Tab, End, Other}
 use Rattle.decimal.specs.declared.Number.{Number}
 use Rattle.decimal.specs.declared.Number.the-variants.{Value, Bad}
 use Rattle.decimal.specs.declared.Digits.{Digits}
 use Rattle.decimal.specs.Numerals.{mostDigits}
-use Rattle.decimal.specs.Bytes.{kindOf, isDigit}
-use Rattle.decimal.specs.Reading.{Reading, more, magnitude, number}
+use Rattle.decimal.specs.Reading.{Reading, more, number}
 
--- a digit comes next
-abbrev pub digitNext : List ℕ → Bool
-digitNext [] = false
-digitNext (b ∷ t) = isDigit (kindOf b)
-
--- a minus comes next
-abbrev pub minusNext : List ℕ → Bool
-minusNext [] = false
-minusNext (b ∷ t) = eqb b 45
+-- a minus
+abbrev pub isMinus : Kind → Bool
+isMinus Minus = true
+isMinus Zero = false
+isMinus Digit = false
+isMinus Tab = false
+isMinus End = false
+isMinus Other = false
 
 -- the number and the place behind it, in a text of n bytes
 abbrev pub placed : ℕ → Reading ℤ → Number
@@ -32,15 +31,6 @@ placed n (some p) = Value (p .0) (n - length (p .1))
 -- the number at a place
 unfoldable pub numberFrom : List ℕ → ℕ → Number
 numberFrom s at = placed (length s) (number (drop at s))
-
--- the number below 0 whose minus stands before a place
-unfoldable pub magnitudeFrom : List ℕ → ℕ → Number
-magnitudeFrom s at = placed (length s) (magnitude (drop at s))
-
--- the number whose first digit stands at a place, behind its minus or without one
-abbrev pub digitsFrom : Bool → List ℕ → ℕ → Number
-digitsFrom true s at = magnitudeFrom s at
-digitsFrom false s at = numberFrom s at
 
 -- a magnitude with its sign
 abbrev pub sign : Bool → ℕ → ℤ

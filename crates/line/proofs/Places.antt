@@ -2,14 +2,15 @@
 use mathlib.Core.Path.{_≡_, refl, sym, ap, ap₂, _∙_}
 use mathlib.Core.List.{List, [], _∷_, _++_, append-assoc}
 use mathlib.Core.Option.{Option, none, some}
-use mathlib.Core.Bool.{true, false}
+use mathlib.Core.Bool.{Bool, true, false}
 use Prim.Native.Nat.{ℕ, _+_, _-_, _≤_}
 use native.Mathlib.Omega.{arith}
 use lib.IntN.{ℤ}
-use lib.ListN.{length, take, drop, length-append, length-drop, take-append-drop}
+use lib.ListN.{length, getD, take, drop, length-append, length-drop, take-append-drop}
 use lib.Seq.{drop-drop, drop-at}
 use Rattle.decimal.specs.declared.Number.the-variants.{Value, Bad}
 use Rattle.decimal.specs.Numerals.{numeral, short}
+use Rattle.decimal.specs.Bytes.{kindOf}
 use Rattle.decimal.specs.Reading.{Reading, number}
 use Rattle.decimal.specs.Places.{placed, numberFrom}
 use Rattle.decimal.proofs.Reading.{number-spelled}
@@ -19,9 +20,9 @@ use Rattle.line.specs.declared.Line.the-variants.{Plan, Layer, Rectangle
 use Rattle.line.specs.declared.Found.the-variants.{At, Nothing}
 use Rattle.line.specs.Lines.{PLAN, LAYER, RECT, spellTo}
 use Rattle.line.specs.Parsing.{either, field, planLine, layerLine, rectLine, line}
-use Rattle.line.specs.Places.{nextIs, startsWith, fieldFrom, found, rectFrom, layerFrom, planFrom, lineFrom, Line-at}
+use Rattle.line.specs.Places.{startsWith, endOf, endsBy, fieldFrom, found, rectFrom, layerFrom, planFrom, lineFrom, Line-at}
 use Rattle.line.proofs.Lines.{field-spelled, behind-spelled, line-spelled, spell-front, shorter}
-use Rattle.line.proofs.Words.{next-inside, one-on, behind-is}
+use Rattle.line.proofs.Words.{behind-is, behind-end, ends-inside}
 
 -- ---- what is behind a reading is the text from a later place on
 
@@ -67,15 +68,16 @@ number-on s at z i e =
 
 -- ---- a field
 
-pub field-good : (s : List ℕ) (at e : ℕ) (z : ℤ) (i : ℕ) → Numbered-at s at z i → nextIs e (drop i s) ≡ true → Value z (i + 1) ≡ fieldFrom s at e
-unfolding fieldFrom
-field-good s at e z i m h =
-    let l = next-inside s i e h in
-    rw (m .reads, behind-is (e ∷ []) (drop i s), h, one-on s i, place s (i + 1) (omega arith))
+module _ (s : List ℕ) (at : ℕ) (last : Bool) (z : ℤ) (i : ℕ) (m : Numbered-at s at z i) where
+  pub field-good : endsBy (kindOf (getD s i 0)) last ≡ true → Value z (i + 1) ≡ fieldFrom s at (endOf last)
+  unfolding fieldFrom
+  field-good h =
+      let l = ends-inside s i last h in
+      rw (m .reads, behind-end last s i, h, place s (i + 1) (omega arith))
 
-pub field-other : (s : List ℕ) (at e : ℕ) (z : ℤ) (i : ℕ) → Numbered-at s at z i → nextIs e (drop i s) ≡ false → Bad ≡ fieldFrom s at e
-unfolding fieldFrom
-field-other s at e z i m h = rw (m .reads, behind-is (e ∷ []) (drop i s), h)
+  pub field-other : endsBy (kindOf (getD s i 0)) last ≡ false → Bad ≡ fieldFrom s at (endOf last)
+  unfolding fieldFrom
+  field-other h = rw (m .reads, behind-end last s i, h)
 
 pub field-none : (s : List ℕ) (at e : ℕ) → Bad ≡ numberFrom s at → Bad ≡ fieldFrom s at e
 unfolding fieldFrom numberFrom

@@ -2,10 +2,12 @@
 use mathlib.Core.Path.{_≡_}
 use mathlib.Core.List.{List, [], _∷_}
 use mathlib.Core.Option.{none, some}
-use mathlib.Core.Bool.{Bool, true, false, _&&_}
+use mathlib.Core.Bool.{Bool, true, false, not, _&&_}
 use Prim.Native.Nat.{ℕ, _-_, _≤_, _<_}
 use lib.Dec.{eqb}
 use lib.ListN.{length, drop}
+use Rattle.decimal.specs.declared.Kind.{Kind}
+use Rattle.decimal.specs.declared.Kind.the-variants.{Minus, Zero, Digit, Tab, End, Other}
 use Rattle.decimal.specs.declared.Number.{Number}
 use Rattle.decimal.specs.Reading.{Reading}
 use Rattle.decimal.specs.Places.{placed}
@@ -14,15 +16,25 @@ use Rattle.line.specs.declared.Found.{Found}
 use Rattle.line.specs.declared.Found.the-variants.{At, Nothing}
 use Rattle.line.specs.Parsing.{field, planLine, layerLine, rectLine, line}
 
--- the byte b comes next
-abbrev pub nextIs : ℕ → List ℕ → Bool
-nextIs b [] = false
-nextIs b (a ∷ t) = eqb b a
-
 -- the text starts with a word
 abbrev pub startsWith : List ℕ → List ℕ → Bool
 startsWith [] t = true
-startsWith (w ∷ ws) t = nextIs w t && startsWith ws (drop 1 t)
+startsWith (w ∷ ws) [] = false
+startsWith (w ∷ ws) (b ∷ t) = eqb w b && startsWith ws t
+
+-- the byte that ends a field: a line end the last one of its line, a tab any other
+abbrev pub endOf : Bool → ℕ
+endOf true = 10
+endOf false = 9
+
+-- a byte of a kind does so
+abbrev pub endsBy : Kind → Bool → Bool
+endsBy Minus last = false
+endsBy Zero last = false
+endsBy Digit last = false
+endsBy Tab last = not last
+endsBy End last = last
+endsBy Other last = false
 
 -- the number at a place that has the byte e behind it
 unfoldable pub fieldFrom : List ℕ → ℕ → ℕ → Number

@@ -1,32 +1,27 @@
 // Lines, read at a place of a text.
 use crate::Found;
 use crate::Line;
+use decimal::Kind;
 use decimal::Number;
+use decimal::kind_at;
 use decimal::read_number;
 use geometry::Rect;
 ghost use mathlib.Core.Path.{_≡_};
 ghost use Prim.Native.Nat.{_≤_};
 ghost use lib.ListN.{length, drop};
-ghost use Rattle.line.specs.Places.{nextIs, startsWith, fieldFrom, rectFrom, layerFrom, planFrom, lineFrom};
-
-// Whether the byte b stands at a place.
-fn next_is(s: &[u8], i: usize, b: u8) -> bool
-    ensures { λ r. ⌜ r ≡ nextIs b (drop i (now (s .entry))) ⌝ }
-{
-    if i < s.len() {
-        return b == s[i];
-    }
-    false
-}
+ghost use Rattle.line.specs.Places.{startsWith, endOf, endsBy, fieldFrom, rectFrom, layerFrom, planFrom, lineFrom};
 
 // Whether a word stands at a place.
 fn starts(s: &[u8], at: usize, word: &[u8]) -> bool
     requires { ⌜ at ≤ length (now s) ⌝ }
     ensures { λ r. ⌜ r ≡ startsWith (now (word .entry)) (drop at (now (s .entry))) ⌝ }
 {
+    if s.len() - at < word.len() {
+        return false;
+    }
     let mut i: usize = 0;
     while i < word.len() {
-        if !next_is(s, at + i, word[i]) {
+        if s[at + i] != word[i] {
             return false;
         }
         i += 1;
@@ -34,13 +29,27 @@ fn starts(s: &[u8], at: usize, word: &[u8]) -> bool
     true
 }
 
-// A number with the byte e behind it.
-fn read_field(s: &[u8], at: usize, e: u8) -> Number
-    ensures { λ r. ⌜ r ≡ fieldFrom (now (s .entry)) at e ⌝ }
+// Whether a byte of this kind ends a field, the last one of its line or another.
+fn ends(kind: Kind, last: bool) -> bool
+    ensures { λ r. ⌜ r ≡ endsBy kind last ⌝ }
+{
+    match kind {
+        Kind::Minus => false,
+        Kind::Zero => false,
+        Kind::Digit => false,
+        Kind::Tab => !last,
+        Kind::End => last,
+        Kind::Other => false,
+    }
+}
+
+// A number and the byte that ends its field, the last one of its line or another.
+fn read_field(s: &[u8], at: usize, last: bool) -> Number
+    ensures { λ r. ⌜ r ≡ fieldFrom (now (s .entry)) at (endOf last) ⌝ }
 {
     match read_number(s, at) {
         Number::Value(z, next) => {
-            if next_is(s, next, e) {
+            if ends(kind_at(s, next), last) {
                 return Number::Value(z, next + 1);
             }
             Number::Bad
@@ -53,16 +62,16 @@ fn read_field(s: &[u8], at: usize, e: u8) -> Number
 fn read_rect(s: &[u8], at: usize) -> Found
     ensures { λ r. ⌜ r ≡ rectFrom (now (s .entry)) at ⌝ }
 {
-    let Number::Value(left, a) = read_field(s, at, b'\t') else {
+    let Number::Value(left, a) = read_field(s, at, false) else {
         return Found::Nothing;
     };
-    let Number::Value(bottom, b) = read_field(s, a, b'\t') else {
+    let Number::Value(bottom, b) = read_field(s, a, false) else {
         return Found::Nothing;
     };
-    let Number::Value(right, c) = read_field(s, b, b'\t') else {
+    let Number::Value(right, c) = read_field(s, b, false) else {
         return Found::Nothing;
     };
-    let Number::Value(top, d) = read_field(s, c, b'\n') else {
+    let Number::Value(top, d) = read_field(s, c, true) else {
         return Found::Nothing;
     };
     let r = Rect {
@@ -78,10 +87,10 @@ fn read_rect(s: &[u8], at: usize) -> Found
 fn read_layer(s: &[u8], at: usize) -> Found
     ensures { λ r. ⌜ r ≡ layerFrom (now (s .entry)) at ⌝ }
 {
-    let Number::Value(n, a) = read_field(s, at, b'\t') else {
+    let Number::Value(n, a) = read_field(s, at, false) else {
         return Found::Nothing;
     };
-    let Number::Value(margin, b) = read_field(s, a, b'\n') else {
+    let Number::Value(margin, b) = read_field(s, a, true) else {
         return Found::Nothing;
     };
     Found::At(Line::Layer(n, margin), b)
@@ -91,7 +100,7 @@ fn read_layer(s: &[u8], at: usize) -> Found
 fn read_plan(s: &[u8], at: usize) -> Found
     ensures { λ r. ⌜ r ≡ planFrom (now (s .entry)) at ⌝ }
 {
-    match read_field(s, at, b'\n') {
+    match read_field(s, at, true) {
         Number::Value(k, next) => Found::At(Line::Plan(k), next),
         Number::Bad => Found::Nothing,
     }

@@ -1,10 +1,9 @@
 -- Laws of lists that are filled up with 0.
-use mathlib.Core.Path.{_≡_, refl, sym, ap, ap₂, _∙_}
-use mathlib.Core.List.{List, [], _∷_, _++_}
+use mathlib.Core.Path.{_≡_, refl, sym, ap, ap₂}
+use mathlib.Core.List.{List, [], _∷_}
 use Prim.Native.Nat.{ℕ, zero, suc, _≤_, zero-le, suc-le-suc}
 use native.Mathlib.Omega.{arith}
 use lib.ListN.{length, take, getD}
-use lib.Seq.{take-suc, take-length, length-take-le}
 use Rattle.lists.specs.Lists.{padded}
 
 -- what is filled up begins as it was
@@ -34,10 +33,3 @@ padded-front zero n (a ∷ l) e f = absurd (omega arith)
 padded-front (suc m) n [] e f = absurd (omega arith)
 padded-front (suc m) zero (a ∷ l) e f = ap₂ _∷_ (sym (f 0 zero-le)) (padded-front m zero l (omega arith) (λ i h. f (suc i) zero-le))
 padded-front (suc m) (suc n) (a ∷ l) e f = ap (λ (k : List ℕ). a ∷ k) (padded-front m n l (omega arith) (λ i h. f (suc i) (suc-le-suc h)))
-
--- a path is its first places, as they stand filled up, and its last one
-pub path-is : (m n : ℕ) (l : List ℕ) → length l ≡ suc n → n ≤ m → take n (padded m (take n l)) ++ getD l n 0 ∷ [] ≡ l
-path-is m n l e h =
-    let z = length-take-le n l (omega arith) in
-    let p = take-padded m (take n l) (omega arith) in
-    ap (λ (k : List ℕ). k ++ getD l n 0 ∷ []) (rw z at p) ∙ sym (take-suc l n 0 (omega arith)) ∙ rw (← e) (take-length l)

@@ -10,7 +10,7 @@ use lib.IntN.{ℤ}
 use lib.Dec.{leb}
 use lib.ListN.{length, getD, take, drop, length-drop, List·getD-eq-default}
 use lib.Seq.{length-take-le}
-use borrow.Author.Tests.{leb-true, leb-false}
+use borrow.Author.Tests.{leb-true, leb-false, le-leb, lt-leb}
 use mir.Val.{boolByte}
 use Rattle.lists.specs.Lists.{sum, each}
 use Rattle.lists.proofs.Lists.{all-getD}
@@ -27,18 +27,8 @@ use Rattle.plan.proofs.Spots.{rect-drop, rect-take, size-of, layer-at, layer-wi
 use Rattle.nearest.specs.declared.Near.{Near}
 use Rattle.nearest.specs.declared.NearestAnswer.{NearestAnswer}
 use Rattle.nearest.specs.Nearest.{squaredGap, nothing, nearer, nearestTo, nearestIn, nearestOf, nearestCause, nearestCall, nearCells}
-use Rattle.nearest.specs.Parts.{Part}
+use Rattle.nearest.specs.Parts.{Part, Within}
 use Rattle.nearest.specs.Theorems.{IsNearest}
-
--- ---- the one at p
-module _ (best : Near) (p gap : ℕ) where
-  pub nearer-kept : best .found && leb (best .gap) gap ≡ true → best ≡ nearer best p gap
-  unfolding nearer
-  nearer-kept e = rw e
-
-  pub nearer-taken : best .found && leb (best .gap) gap ≡ false → record { found = true; place = p; gap = gap } ≡ nearer best p gap
-  unfolding nearer
-  nearer-taken e = rw e
 
 -- ---- causes
 module _ (s : Shape) (cells : List ℤ) (a : Rect) where
@@ -68,14 +58,52 @@ module _ (s : Shape) (cells : List ℤ) (a : Rect) where
   unfolding nearestCall
   call-accepted r e h = rw e h
 
--- ---- the search of a layer: after p rectangles it has the nearest of the first p
-pub near-more : (a : Rect) (rect : ℕ → Rect) (p : ℕ) (best e : Near) → best ≡ nearestTo a rect p → e ≡ nearer best p (squaredGap a (rect p)) → e ≡ nearestTo a rect (p + 1)
-unfolding nearestTo
-near-more a rect p best e h k = k ∙ ap (λ (b : Near). nearer b p (squaredGap a (rect p))) h ∙ ap (nearestTo a rect) (sym (add-one p))
-
+-- ---- the search of a layer
 pub near-none : (a : Rect) (rect : ℕ → Rect) → nothing ≡ nearestTo a rect 0
 unfolding nearestTo
 near-none a rect = refl
+
+-- after p rectangles, at least one, the nearest of these is the one at `place`, with the gap `least`
+pub record Found (a : Rect) (rect : ℕ → Rect) (size : ℕ) (least place p : ℕ) : Type 0 where
+  pub some : 1 ≤ p
+  pub within : p ≤ size
+  pub before : place < p
+  pub is : record { found = true; place = place; gap = least } ≡ nearestTo a rect p
+
+module _ (a : Rect) (rect : ℕ → Rect) (size : ℕ) where
+  pub found-first : (least : ℕ) → 0 < size → least ≡ squaredGap a (rect 0) → Found a rect size least 0 1
+  unfolding nearestTo nearer
+  found-first least h e = record { some = omega arith; within = h; before = omega arith; is = rw e }
+
+  module _ (least place p : ℕ) (f : Found a rect size least place p) (h : p < size) (v : ℕ) (w : Within least (squaredGap a (rect p)) v) where
+    more : nearer (record { found = true; place = place; gap = least }) p (squaredGap a (rect p)) ≡ nearestTo a rect (p + 1)
+    unfolding nearestTo
+    more = ap (λ (b : Near). nearer b p (squaredGap a (rect p))) (f .is) ∙ ap (nearestTo a rect) (sym (add-one p))
+
+    kept : (g : ℕ) → least ≤ g → record { found = true; place = place; gap = least } ≡ nearer (record { found = true; place = place; gap = least }) p g
+    unfolding nearer
+    kept g k = rw (le-leb least g k)
+
+    taken : (g : ℕ) → g < least → record { found = true; place = p; gap = g } ≡ nearer (record { found = true; place = place; gap = least }) p g
+    unfolding nearer
+    taken g k = rw (lt-leb least g k)
+
+    -- the rectangle at p is nearer, or it is not
+    found-nearer : v < least → Found a rect size v p (p + 1)
+    found-nearer k = record {
+      some = omega arith;
+      within = omega arith;
+      before = omega arith;
+      is = ap (λ (g : ℕ). record { found = true; place = p; gap = g }) (w .less k) ∙ (taken _ (omega (arith, w .less k)) ∙ more);
+    }
+
+    found-same : least ≤ v → Found a rect size least place (p + 1)
+    found-same k = record { some = omega arith; within = omega arith; before = omega (arith, f .before); is = kept _ (w .more k) ∙ more }
+
+    -- what the loop goes on with, either way
+    pub found-step : (l q : ℕ) → ((v < least) × (l ≡ v) × (q ≡ p)) ⊎ ((least ≤ v) × (l ≡ least) × (q ≡ place)) → Found a rect size l q (p + 1)
+    found-step l q (inl w) = rw (w .1, w .2) (found-nearer (w .0))
+    found-step l q (inr w) = rw (w .1, w .2) (found-same (w .0))
 
 module _ (a : Rect) (rect : ℕ → Rect) where
   -- what holds of the places below n and of n holds below n + 1

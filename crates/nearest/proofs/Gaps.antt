@@ -127,6 +127,10 @@ read-gap a r f g x y p q =
     let rt = g .top in
     ap₂ (λ (m n : ℕ). m * m + n * n) (simp toZ-ofZ at p) (simp toZ-ofZ at q)
 
+-- one axis alone
+pub across-most : (a r : Rect) → Fitting a → Fitting r → (x : ℕ) → x ≡ axisGap (toZ w32 (ofZ w32 (a .left))) (toZ w32 (ofZ w32 (a .right))) (toZ w32 (ofZ w32 (r .left))) (toZ w32 (ofZ w32 (r .right))) → x * x ≤ squaredGap a r
+across-most a r f g x p = omega (arith, read-gap a r f g x _ p refl)
+
 square-zero : (n : ℕ) → n * n ≡ 0 → n ≡ 0
 square-zero zero e = refl
 square-zero (suc n) e = absurd (omega (arith, suc-mul n (suc n)))

@@ -1,4 +1,4 @@
--- What the loop over a layer's cells asks of them; no public call's contract cites it.
+-- What the loop over a layer's cells asks of them and of the gaps; no public call's contract cites it.
 use mathlib.Core.Path.{_≡_}
 use mathlib.Core.List.{List}
 use mathlib.Core.Bool.{true}
@@ -14,3 +14,8 @@ pub record Part (cells : List ℤ) (n : ℕ) : Type 0 where
   pub small : n ≤ mostSize
   pub whole : length cells ≡ 4 * n
   pub ranged : (p : ℕ) → p < n → inExtent (rectAt cells p) ≡ true
+
+-- v is the gap where it is less than the smallest so far; else the gap is no less
+pub record Within (least gap v : ℕ) : Type 0 where
+  pub less : v < least → v ≡ gap
+  pub more : least ≤ v → least ≤ gap

@@ -1,12 +1,13 @@
 // What lies nearest to a box in each layer of a plan (02, Q-1).
 //
-// Rectangles are reached by the plan's layers alone. After the checks they are grown, and then each is looked at once.
+// Rectangles are reached by the plan's layers alone. After the checks they are grown, where a layer has a margin, and then each is looked at once.
 use geometry::Rect;
 use geometry::in_range;
 use geometry::span;
 use plan::MOST_CELLS;
 use plan::Shape;
 use plan::grow_plan;
+use plan::is_drawn;
 use plan::layer_cells;
 use plan::plan_cause;
 use plan::rect_at;
@@ -16,11 +17,11 @@ ghost use Prim.Native.Nat.{_*_, _<_, _≤_};
 ghost use lib.ListN.{length, take};
 ghost use Rattle.lists.specs.Lists.{sum};
 ghost use Rattle.geometry.specs.Rectangles.{inRange, inExtent};
-ghost use Rattle.plan.specs.Plan.{rectAt, layersOf};
+ghost use Rattle.plan.specs.Plan.{rectAt, layersOf, layers, Sound};
 ghost use Rattle.plan.specs.Spots.{layerAt};
 ghost use Rattle.plan.specs.Frames.{Framed};
-ghost use Rattle.nearest.specs.Nearest.{axisGap, squaredGap, nothing, nearer, nearestIn, nearestOf, nearestCause, nearestCall, nearCells};
-ghost use Rattle.nearest.specs.Parts.{Part};
+ghost use Rattle.nearest.specs.Nearest.{axisGap, squaredGap, nothing, nearestIn, nearestOf, nearestCause, nearestCall, nearCells};
+ghost use Rattle.nearest.specs.Parts.{Part, Within};
 
 // What lies nearest in a layer: whether there is anything, its place, and the squared gap in square millimetres.
 pub struct Near {
@@ -47,6 +48,17 @@ pub fn nearest(shape: Shape, cells: &[i32], around: Rect) -> NearestAnswer
             layers: [none, none, none, none, none, none],
         };
     }
+    if is_drawn(shape) {
+        return nearest_told(&shape.sizes, shape.k as usize, cells, around);
+    }
+    nearest_grown(shape, cells, around)
+}
+
+// What lies nearest in each layer of a sound plan, which is grown first.
+fn nearest_grown(shape: Shape, cells: &[i32], around: Rect) -> NearestAnswer
+    requires { ⌜ Sound shape (now cells) × (inRange around ≡ true) ⌝ }
+    ensures { λ r. ⌜ r ≡ nearestOf (layers shape (now (cells .entry))) around ⌝ }
+{
     let mut run = [0i32; MOST_CELLS];
     grow_plan(shape, cells, &mut run);
     let n = cells.len();
@@ -144,19 +156,31 @@ fn sum_of(sizes: &[u32]) -> usize
     n
 }
 
-// What lies nearest among the rectangles of a layer.
+// What lies nearest among the rectangles of a layer. A rectangle that is no nearer along one axis alone is passed over.
 fn nearest_among(cells: &[i32], size: usize, around: Rect) -> Near
     requires { ⌜ Part (now cells) size ⌝ }
     requires { ⌜ inRange around ≡ true ⌝ }
     ensures { λ r. ⌜ r ≡ nearestIn around (record { size = size; rect = rectAt (now (cells .entry)) }) ⌝ }
 {
-    let mut best = nothing_near();
-    let mut p: usize = 0;
+    if size == 0 {
+        return nothing_near();
+    }
+    let mut least = squared_gap(around, rect_at(cells, 0));
+    let mut place: usize = 0;
+    let mut p: usize = 1;
     while p < size {
-        best = nearer_of(best, p as u32, squared_gap(around, rect_at(cells, p)));
+        let gap = gap_within(around, rect_at(cells, p), least);
+        if gap < least {
+            least = gap;
+            place = p;
+        }
         p += 1;
     }
-    best
+    Near {
+        found: true,
+        place: place as u32,
+        gap: least,
+    }
 }
 
 fn nothing_near() -> Near
@@ -169,20 +193,6 @@ fn nothing_near() -> Near
     }
 }
 
-// What is nearest so far, unless the rectangle at a place is nearer.
-fn nearer_of(best: Near, place: u32, gap: u64) -> Near
-    ensures { λ r. ⌜ r ≡ nearer best place gap ⌝ }
-{
-    if best.found & (best.gap <= gap) {
-        return best;
-    }
-    Near {
-        found: true,
-        place,
-        gap,
-    }
-}
-
 // The squared gap between a box and a rectangle.
 fn squared_gap(a: Rect, r: Rect) -> u64
     requires { ⌜ inRange a ≡ true ⌝ }
@@ -192,6 +202,21 @@ fn squared_gap(a: Rect, r: Rect) -> u64
     let x = axis_gap(a.left, a.right, r.left, r.right);
     let y = axis_gap(a.bottom, a.top, r.bottom, r.top);
     x * x + y * y
+}
+
+// The squared gap between a box and a rectangle, or the smallest so far, where the gap along one axis shows that it is no less.
+fn gap_within(a: Rect, r: Rect, least: u64) -> u64
+    requires { ⌜ inRange a ≡ true ⌝ }
+    requires { ⌜ inExtent r ≡ true ⌝ }
+    ensures { λ v. ⌜ Within least (squaredGap a r) v ⌝ }
+{
+    let x = axis_gap(a.left, a.right, r.left, r.right);
+    let across = x * x;
+    if least <= across {
+        return least;
+    }
+    let y = axis_gap(a.bottom, a.top, r.bottom, r.top);
+    across + y * y
 }
 
 // The gap between two extents of one axis.

@@ -1,24 +1,27 @@
 // The calls on the walk of a plan: the fresh ticket, a page, the whole run. What they answer is defined in the crate `paging`.
 mod answers;
 mod counters;
+mod grown;
 
 use answers::First;
-use answers::first_cursor;
-use answers::page_at;
 use answers::refused_page;
-use answers::run_from;
-use answers::with_ground;
 use counters::fresh_cause;
 use counters::write_count;
 use cursors::ended_cursor;
+use grown::first_grown;
+use grown::first_over;
+use grown::page_grown;
+use grown::page_over;
+use grown::refused_first;
+use grown::run_grown;
+use grown::run_over;
 use paging::Fresh;
 use paging::Page;
 use paging::Run;
 use paging::Ticket;
-use plan::MOST_CELLS;
 use plan::Shape;
-use slots::frame_of;
-use sweep::open_plan;
+use plan::is_drawn;
+use plan::plan_cause;
 ghost use mathlib.Core.Path.{_≡_};
 ghost use lib.ListN.{length};
 ghost use Rattle.pager.specs.Answers.{firstOf};
@@ -52,19 +55,14 @@ pub fn fresh_ticket(shape: Shape, cells: &[i32], order: &[u32], counter: &mut [u
 fn first_of(shape: Shape, cells: &[i32], order: &[u32]) -> First
     ensures { λ r. ⌜ r ≡ firstOf shape (now (cells .entry)) (now (order .entry)) ⌝ }
 {
-    let mut run = [0i32; MOST_CELLS];
-    let number = open_plan(shape, cells, order, &mut run);
-    if number != 0 {
-        return First {
-            number,
-            cursor: ended_cursor(),
-        };
+    let cause = plan_cause(shape, cells);
+    if cause != 0 {
+        return refused_first(cause);
     }
-    let n = cells.len();
-    First {
-        number: 0,
-        cursor: first_cursor(frame_of(shape), &run[..n], order),
+    if is_drawn(shape) {
+        return first_over(shape, cells, order);
     }
+    first_grown(shape, cells, order)
 }
 
 // A page of the walk from a ticket on, within a budget of probes, into a lent table (01: the page call); the counter is that of the ticket's run.
@@ -82,24 +80,17 @@ pub fn fetch_page(
     ensures counter { λ _. ⌜ now (counter .exit) ≡ pageCounter shape (now (cells .entry)) (now (order .entry)) ticket (now (counter .entry)) budget (now (table .entry)) ⌝ }
     ensures table { λ _. ⌜ now (table .exit) ≡ pageTable shape (now (cells .entry)) (now (order .entry)) ticket (now (counter .entry)) budget (now (table .entry)) ⌝ }
 {
-    let mut run = [0i32; MOST_CELLS];
-    let cause = open_plan(shape, cells, order, &mut run);
+    let cause = plan_cause(shape, cells);
     if cause != 0 {
         return refused_page(cause, ticket);
     }
-    let n = cells.len();
-    page_at(
-        frame_of(shape),
-        &run[..n],
-        order,
-        ticket,
-        counter,
-        budget,
-        table,
-    )
+    if is_drawn(shape) {
+        return page_over(shape, cells, order, ticket, counter, budget, table);
+    }
+    page_grown(shape, cells, order, ticket, counter, budget, table)
 }
 
-// All rows of a plan's table into a lent table, if they fit (01: the whole run). The work buffer is asked for its length (02, Q-6) and not used.
+// All rows of a plan's table into a lent table, if they fit (01: the whole run). Their ground is counted once with the help of a work buffer (02, Q-6).
 pub fn run_all(
     shape: Shape,
     cells: &[i32],
@@ -111,12 +102,12 @@ pub fn run_all(
     ensures table { λ _. ⌜ now (table .exit) ≡ runTable shape (now (cells .entry)) (now (order .entry)) (now (table .entry)) (length (now (work .entry))) ⌝ }
     ensures work { λ _. ⌜ WorkAfter (runCause shape (now (cells .entry)) (now (order .entry)) (now (table .entry)) (length (now (work .entry)))) (now (work .entry)) (now (work .exit)) ⌝ }
 {
-    let mut run = [0i32; MOST_CELLS];
-    let cause = open_plan(shape, cells, order, &mut run);
+    let cause = plan_cause(shape, cells);
     if cause != 0 {
         return Run::Refused(cause);
     }
-    let n = cells.len();
-    let listing = run_from(frame_of(shape), &run[..n], order, table, work.len());
-    with_ground(listing, shape, &run[..n], table)
+    if is_drawn(shape) {
+        return run_over(shape, cells, order, table, work);
+    }
+    run_grown(shape, cells, order, table, work)
 }

@@ -1,22 +1,22 @@
--- Laws of cursors: one says the guard and the path of its probe, and so two probes have the same one only where they have these in common.
+-- Laws of cursors: one says the guard and the candidates of its probe, and so two probes have the same one only where they have these in common.
 use mathlib.Core.Path.{_≡_, refl, sym, ap, _∙_}
-use mathlib.Core.List.{List, [], _∷_, _++_}
-use mathlib.Core.Bool.{Bool, true, false, not, cond, _&&_}
+use mathlib.Core.List.{List}
+use mathlib.Core.Bool.{Bool, true, false, not, cond}
 use Prim.Native.Nat.{ℕ, suc, _+_, _-_}
 use native.Mathlib.Omega.{arith}
 use lib.Dec.{eqb}
-use lib.ListN.{length, take}
+use lib.ListN.{take}
 use borrow.Author.Tests.{eq-eqb, eqb-true}
 use Rattle.lists.specs.Lists.{sum, same}
-use Rattle.lists.proofs.Padding.{path-is}
-use Rattle.lists.proofs.Tests.{both, same-test, clash}
+use Rattle.lists.proofs.Padding.{take-padded}
+use Rattle.lists.proofs.Tests.{both, never-true, clash}
 use Rattle.lists.proofs.Numbers.{same-refl, same-eq}
 use Rattle.plan.specs.Spots.{spotOf}
 use Rattle.search.specs.Traversal.{Probe}
 use Rattle.paging.specs.declared.Cursor.{Cursor}
 use Rattle.paging.specs.Cursors.{cursorOf, endedCursor, sameCursor}
 use Rattle.plan.proofs.Spots.{number-spot}
-use Rattle.search.proofs.Names.{Deep}
+use Rattle.search.proofs.Names.{Apart, Deep}
 
 -- ---- the test of equality
 -- where it is passed, the two are equal
@@ -52,9 +52,9 @@ same-cursor-refl a =
     mark false = refl
 
 -- ---- what a cursor says
--- the path: the places chosen, and the one to try
-abbrev pub pathIn : Cursor → List ℕ
-pathIn c = take (c .filled) (c .chosen) ++ c .next ∷ []
+-- the chosen candidates
+abbrev pub chosenIn : Cursor → List ℕ
+chosenIn c = take (c .filled) (c .chosen)
 
 -- the guard's number, by its layer and place
 abbrev pub guardIn : List ℕ → Cursor → ℕ
@@ -68,27 +68,18 @@ module _ {S : Type 0} (ns : List ℕ) where
       let e : suc i - 1 ≡ i = omega arith in
       rw e (number-spot ns (t .guard))
 
-  -- and its path, where this has at most 6 places
-  pub cursor-path : (t : Probe S) → Deep 6 t → pathIn (cursorOf ns t) ≡ t .path
-  cursor-path t h = path-is 5 (length (t .path) - 1) (t .path) (omega arith) (omega arith)
+  -- and its chosen candidates, where they are at most 5
+  pub cursor-chosen : (t : Probe S) → Deep 6 t → chosenIn (cursorOf ns t) ≡ t .chosen
+  cursor-chosen t h = take-padded 5 (t .chosen) (omega arith)
 
   -- it is not the one that says the walk has ended
   pub never-ended : (t : Probe S) → sameCursor endedCursor (cursorOf ns t) ≡ false
   unfolding sameCursor
   never-ended t = refl
 
-  -- two probes have the same cursor exactly where they have the same guard and path
-  pub same-named : (t u : Probe S) → Deep 6 t → Deep 6 u → sameCursor (cursorOf ns u) (cursorOf ns t) ≡ (eqb (t .guard) (u .guard) && same (t .path) (u .path))
-  same-named t u h k = same-test (sameCursor (cursorOf ns u) (cursorOf ns t)) (eqb (t .guard) (u .guard) && same (t .path) (u .path)) to from
-    where
-      to : sameCursor (cursorOf ns u) (cursorOf ns t) ≡ true → (eqb (t .guard) (u .guard) && same (t .path) (u .path)) ≡ true
-      to e =
-          let c = same-cursor-eq (cursorOf ns u) (cursorOf ns t) e in
-          let g : t .guard ≡ u .guard = sym (ap (guardIn ns) c ∙ cursor-guard t) ∙ cursor-guard u in
-          let p : t .path ≡ u .path = sym (ap pathIn c ∙ cursor-path t h) ∙ cursor-path u k in
-          rw (g, p, eq-eqb (u .guard) (u .guard) refl) (same-refl (u .path))
-
-      from : (eqb (t .guard) (u .guard) && same (t .path) (u .path)) ≡ true → sameCursor (cursorOf ns u) (cursorOf ns t) ≡ true
-      from e =
-          let b = both (eqb (t .guard) (u .guard)) (same (t .path) (u .path)) e in
-          rw (eqb-true (t .guard) (u .guard) (b .0), same-eq (t .path) (u .path) (b .1)) (same-cursor-refl (cursorOf ns u))
+  -- probes that differ in guard or candidates have other cursors
+  pub cursors-apart : (t u : Probe S) → Deep 6 t → Deep 6 u → Apart t u → sameCursor (cursorOf ns t) (cursorOf ns u) ≡ false
+  cursors-apart t u h k n =
+      never-true (sameCursor (cursorOf ns t) (cursorOf ns u)) (λ e.
+      let c = same-cursor-eq (cursorOf ns t) (cursorOf ns u) e in
+      n (sym (cursor-guard t) ∙ (ap (guardIn ns) c ∙ cursor-guard u)) (sym (cursor-chosen t h) ∙ (ap chosenIn c ∙ cursor-chosen u k)) (ap (λ (x : Cursor). x .next) c))

@@ -7,9 +7,9 @@ use mathlib.Core.Logic.{inl, inr, ⊎-elim}
 use Prim.Native.Nat.{ℕ, _+_, suc, _-_, _≤_, _<_}
 use native.Mathlib.Omega.{arith}
 use lib.IntN.{ℤ}
-use lib.ListN.{length, take, getD, length-take, length-append}
-use lib.Seq.{take-at, getD-at, length-take-le}
-use Rattle.lists.specs.Lists.{Tells, without, padded, isSome}
+use lib.ListN.{length, length-take}
+use lib.Seq.{length-take-le}
+use Rattle.lists.specs.Lists.{Tells, without, isSome}
 use Rattle.lists.proofs.Tests.{clash, tells}
 use Rattle.lists.proofs.Lists.{all-at}
 use Rattle.lists.proofs.Kept.{length-without}
@@ -30,7 +30,7 @@ use Rattle.paging.specs.declared.Cursor.{Cursor}
 use Rattle.paging.specs.Cursors.{cursorOf, sameCursor, findIn, resume}
 use Rattle.paging.specs.Theorems.{NamesProbe, Good}
 use Rattle.search.proofs.Stands.{named-short}
-use Rattle.paging.proofs.Cursors.{pathIn, same-cursor-refl, never-ended, cursor-path}
+use Rattle.paging.proofs.Cursors.{chosenIn, same-cursor-refl, never-ended, cursor-chosen}
 use Rattle.lists.proofs.Padding.{padded-long, padded-zeros, padded-front}
 use Rattle.paging.proofs.Overlays.{overlayOf, lawful}
 use Rattle.paging.proofs.Resume.{Left, walk-deep, resume-is, resume-ended}
@@ -51,19 +51,16 @@ module _ (ns : List ℕ) (cells : List ℤ) (frame : Framed ns cells) where
     going = refl;
     layer = omega arith;
     guard = rw e (rect-number ns cells (t .guard) (omega (arith, h .0, frame .whole)) .1);
-    five = padded-long 5 (take n (t .path));
-    zeros = λ i h. padded-zeros 5 (take n (t .path)) i (omega (arith, length-take n (t .path)));
-    path = rw (e, cursor-path ns t (all-at (walk-deep (overlayOf ns cells) (lawful ns cells frame)) m)) (h .1);
+    five = padded-long 5 (t .chosen);
+    zeros = padded-zeros 5 (t .chosen);
+    places = rw (e, cursor-chosen ns t (all-at (walk-deep (overlayOf ns cells) (lawful ns cells frame)) m)) (h .1);
   }
     where
-      n : ℕ
-      n = length (t .path) - 1
-
       e : suc (spotOf ns (t .guard) .layer) - 1 ≡ spotOf ns (t .guard) .layer
       e = omega arith
 
-      h : (t .guard < count cells) × (let g = guardAt (layersOf ns cells) (t .guard) (spotOf ns (t .guard)) in Named (g .slots) (g .start) (t .path))
-      h = walk-is-table ns cells frame .is .probes (t .guard) (t .path) .0 (t, m, refl, refl)
+      h : (t .guard < count cells) × (let g = guardAt (layersOf ns cells) (t .guard) (spotOf ns (t .guard)) in Named (g .slots) (g .start) (t .chosen) (t .tried))
+      h = walk-is-table ns cells frame .is .probes (t .guard) (t .chosen) (t .tried) .0 (t .yields, m)
 
   -- a cursor that names a probe leaves a slot for the place to try
   pub names-slots : (c : Cursor) → NamesProbe ns cells c → c .filled + 2 ≤ length ns
@@ -74,10 +71,9 @@ module _ (ns : List ℕ) (cells : List ℤ) (frame : Framed ns cells) where
       let l = length-without i ls (has-layer ls i (c .place) (p .guard)) in
       omega (
         arith,
-        named-short (p .path) .1,
+        named-short (p .places),
         slots-long x i (without i ls),
         layers-long ns cells,
-        length-append (take (c .filled) (c .chosen)) (c .next ∷ []),
         length-take (c .filled) (c .chosen),
         p .five,
       )
@@ -86,38 +82,30 @@ module _ (ns : List ℕ) (cells : List ℤ) (frame : Framed ns cells) where
   pub names-filled : (c : Cursor) → NamesProbe ns cells c → c .filled ≤ 4
   names-filled c p = omega (arith, names-slots c p, frame .few)
 
-  -- it is the cursor of a probe with this spot and path
-  names-same : (c : Cursor) → NamesProbe ns cells c → (t : Probe Rect) → spotOf ns (t .guard) ≡ record { layer = c .layer - 1; place = c .place } → t .path ≡ pathIn c → cursorOf ns t ≡ c
-  names-same c p t g e = λ i. record {
+  -- it is the cursor of a probe of its guard with its candidates
+  names-same : (c : Cursor) → NamesProbe ns cells c → (g : ℕ) (o : Option Rect) → spotOf ns g ≡ record { layer = c .layer - 1; place = c .place }
+      → cursorOf ns (record { guard = g; chosen = chosenIn c; tried = c .next; yields = o }) ≡ c
+  names-same c p g o e = λ i. record {
     ended = sym (p .going) i;
     layer = layer i;
-    place = ap (λ (a : Spot). a .place) g i;
+    place = ap (λ (a : Spot). a .place) e i;
     filled = filled i;
-    chosen = chosen i;
-    next = next i;
+    chosen = padded-front 5 (c .filled) (c .chosen) (p .five) (p .zeros) i;
+    next = c .next;
   }
     where
-      front : length (take (c .filled) (c .chosen)) ≡ c .filled
-      front = length-take-le (c .filled) (c .chosen) (omega (arith, names-filled c p, p .five))
+      layer : suc (spotOf ns g .layer) ≡ c .layer
+      layer = omega (arith, ap (λ (a : Spot). a .layer) e, p .layer)
 
-      layer : suc (spotOf ns (t .guard) .layer) ≡ c .layer
-      layer = omega (arith, ap (λ (a : Spot). a .layer) g, p .layer)
-
-      filled : length (t .path) - 1 ≡ c .filled
-      filled = omega (arith, front, ap length e, length-append (take (c .filled) (c .chosen)) (c .next ∷ []))
-
-      chosen : padded 5 (take (length (t .path) - 1) (t .path)) ≡ c .chosen
-      chosen = rw (filled, e, take-at (take (c .filled) (c .chosen)) (c .next ∷ []) (c .filled) front) (padded-front 5 (c .filled) (c .chosen) (p .five) (p .zeros))
-
-      next : getD (t .path) (length (t .path) - 1) 0 ≡ c .next
-      next = rw (filled, e) (getD-at (take (c .filled) (c .chosen)) (c .next) [] 0 (c .filled) front)
+      filled : length (chosenIn c) ≡ c .filled
+      filled = length-take-le (c .filled) (c .chosen) (omega (arith, names-filled c p, p .five))
 
   -- a cursor that names a probe is that of one of the walk
   names-cursor : (c : Cursor) → NamesProbe ns cells c → (t : Probe Rect) × List·Memᴰ t (walkOf ns cells) × (cursorOf ns t ≡ c)
   names-cursor c p =
       let y = Memᴰ·of-map (spotOf ns) (sweepOrder cells) (sweeps ns cells (frame .whole) .complete (record { layer = c .layer - 1; place = c .place }) (p .guard)) in
-      let i = walk-is-table ns cells frame .is .probes (y .0) (pathIn c) .1 (all-at (sweep-is cells .below) (y .1), rw (y .2) (p .path)) in
-      (i .0, i .1, names-same c p (i .0) (rw (i .2) (y .2)) (i .3))
+      let i = walk-is-table ns cells frame .is .probes (y .0) (chosenIn c) (c .next) .1 (all-at (sweep-is cells .below) (y .1), rw (y .2) (p .places)) in
+      (_, i .1, names-same c p (y .0) (i .0) (y .2))
 
   -- a cursor that names a probe resumes something
   names-resumes : (c : Cursor) → NamesProbe ns cells c → isSome (resume (overlayOf ns cells) c) ≡ true

@@ -33,7 +33,7 @@ use Rattle.paging.proofs.Overlays.{Lawful, lawful}
 use Rattle.paging.proofs.Resume.{resume-is, walk-deep, resume-due}
 use Rattle.paging.proofs.Named.{cursor-names, names-filled, names-slots}
 use Rattle.paging.proofs.Causes.{sound-of, call-causes, refuses}
-use Rattle.paging.proofs.Cursors.{cursor-path}
+use Rattle.paging.proofs.Cursors.{cursor-chosen}
 use Rattle.paging.proofs.Calls.{Serves}
 use Rattle.paging.proofs.Counters.{current-is, current-now}
 use Rattle.paging.proofs.Courses.{Steady, Going, going-end, going-refused, going-accepted, steady-same, going-steady}
@@ -193,7 +193,7 @@ page-left x typed e = go (resume o (x .ticket .cursor)) refl
         let z : drop (length (k .before)) (o .walk) ≡ w = ap (drop (length (k .before))) (sym (k .splits)) ∙ drop-append-seam (k .before) w in
         (length (k .before), sym (ap (dueCursor (o .sizes)) z ∙ k .due), subst (PageHolds o (served x)) (sym z) (page-holds o l (served x) (serves-own x) w e r))
 
--- the cursor of each probe says its guard and its path
+-- the cursor of each probe says its guard and its candidates
 cursor-says : (s : Shape) (cells : List ℤ) → Sound s cells → All (λ t. Says (sizesOf s) (cursorOf (sizesOf s) t) t) (overlay s cells .walk)
 cursor-says s cells h = all-of-mem (overlay s cells .walk) one
   where
@@ -211,7 +211,8 @@ cursor-says s cells h = all-of-mem (overlay s cells .walk) one
           slots = names-slots (sizesOf s) (grown s cells) frame (cursorOf (sizesOf s) t) p;
           five = p .five;
           zeros = p .zeros;
-          path = cursor-path (sizesOf s) t (all-at (walk-deep (overlay s cells) (laws s cells h)) m);
+          chosen = cursor-chosen (sizesOf s) t (all-at (walk-deep (overlay s cells) (laws s cells h)) m);
+          next = refl;
         }
 
 -- ---- demand 3
@@ -224,6 +225,8 @@ demand3 = record {
   refused = refuses;
   cap = λ s cells table. refl;
   fresh = fresh-accepted;
+  due = λ ns t w. refl;
+  none-due = λ ns. refl;
   says = cursor-says;
   taken = cursor-taken;
   page = page-left;

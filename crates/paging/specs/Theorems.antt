@@ -11,6 +11,7 @@ use lib.Dec.{eqb, ltb}
 use lib.ListN.{length, getD, take, drop}
 use Rattle.lists.specs.Lists.{All, sum, keep}
 use Rattle.totals.specs.Totals.{totalOf, valueOf}
+use Rattle.geometry.specs.declared.Rect.{Rect}
 use Rattle.plan.specs.declared.Shape.{Shape}
 use Rattle.plan.specs.Causes.{onCause}
 use Rattle.plan.specs.Plan.{layersOf, sizesOf, grown, layers, Typed, Sound}
@@ -149,7 +150,8 @@ pub record Says {S : Type 0} (ns : List ℕ) (c : Cursor) (t : Probe S) : Type 0
   pub slots : c .filled + 2 ≤ length ns
   pub five : length (c .chosen) ≡ 5
   pub zeros : (i : ℕ) → c .filled ≤ i → getD (c .chosen) i 0 ≡ 0
-  pub path : take (c .filled) (c .chosen) ++ c .next ∷ [] ≡ t .path
+  pub chosen : take (c .filled) (c .chosen) ≡ t .chosen
+  pub next : c .next ≡ t .tried
 
 -- the cursor names a probe of the walk, field by field
 pub record NamesProbe (ns : List ℕ) (cells : List ℤ) (c : Cursor) : Type 0 where
@@ -162,7 +164,7 @@ pub record NamesProbe (ns : List ℕ) (cells : List ℤ) (c : Cursor) : Type 0 w
   pub five : length (c .chosen) ≡ 5
   pub zeros : (i : ℕ) → c .filled ≤ i → getD (c .chosen) i 0 ≡ 0
   -- each chosen place is in its layer and passes in its slot after the ones before it, and the place to try is in its layer
-  pub path : let g = guardAt (layersOf ns cells) 0 (record { layer = c .layer - 1; place = c .place }) in Named (g .slots) (g .start) (take (c .filled) (c .chosen) ++ c .next ∷ [])
+  pub places : let g = guardAt (layersOf ns cells) 0 (record { layer = c .layer - 1; place = c .place }) in Named (g .slots) (g .start) (take (c .filled) (c .chosen)) (c .next)
 
 -- 01: "a trial of the walk" or "Ended in its one form"
 abbrev pub Good : List ℕ → List ℤ → Cursor → Type 0
@@ -283,6 +285,9 @@ pub record Demand3 : Type 0 where
   -- 01: "returns the fresh ticket: the first trial, or Ended where the walk is empty": the cursor of the whole walk. 02: "A fresh start writes 0"
   pub fresh : (s : Shape) (cells : List ℤ) (order counter : List ℕ) → orderCause s cells order ≡ 0 → length counter ≡ 1
       → let o = overlay s cells in (freshCall s cells order counter ≡ record { number = 0; ticket = record { cursor = dueCursor (o .sizes) (o .walk); count = 0 } }) × (freshCounter s cells order counter ≡ 0 ∷ [])
+  -- 01: "A ticket names the trial due next"; "Or it says Ended, all else 0"
+  pub due : (ns : List ℕ) (t : Probe Rect) (w : List (Probe Rect)) → dueCursor ns (t ∷ w) ≡ cursorOf ns t
+  pub none-due : (ns : List ℕ) → dueCursor {S = Rect} ns [] ≡ record { ended = true; layer = 0; place = 0; filled = 0; chosen = 0 ∷ 0 ∷ 0 ∷ 0 ∷ 0 ∷ []; next = 0 }
   -- the cursor of each probe says which it is
   pub says : (s : Shape) (cells : List ℤ) → Sound s cells → All (λ t. Says (sizesOf s) (cursorOf (sizesOf s) t) t) (overlay s cells .walk)
   -- the cursor of what is left after any number of probes is accepted, with any count below 2^57 that the counter holds, and names just that

@@ -18,7 +18,7 @@ use Rattle.geometry.specs.Rectangles.{inRange, inExtent, grownBy}
 use Rattle.geometry.proofs.Rectangles.{grown-extent, grown-none, range-extent}
 use Rattle.plan.specs.declared.Shape.{Shape}
 use Rattle.plan.specs.Limits.{mostCells}
-use Rattle.plan.specs.Plan.{rectAt, rectCells, count, Layer, layersOf, sizesOf, grownFrom, grownLayers, grown, layers, Sound}
+use Rattle.plan.specs.Plan.{rectAt, rectCells, count, Layer, layersOf, sizesOf, grownFrom, grownLayers, grown, layers, allFit, Sound}
 use Rattle.plan.specs.Spots.{Spot, spotOf, layerAt, Has, rectOf}
 use Rattle.plan.specs.Theorems.{Grows}
 use Rattle.plan.specs.Frames.{Framed}
@@ -159,6 +159,15 @@ module _ (s : Shape) (cells : List ℤ) where
             ranged = grown-ranged;
           },
         )
+
+-- with no margin it is the plan
+pub drawn-grown : (s : Shape) (cells : List ℤ) → Sound s cells → allFit 0 6 0 (s .margins) ≡ true → cells ≡ grown s cells
+drawn-grown s cells h e =
+    let small = fit-small 0 6 0 (s .margins) e in
+    sym (grows s cells .none h (λ j. le-zero _ (get-small small j)))
+  where
+    le-zero : (n : ℕ) → n ≤ 0 → n ≡ 0
+    le-zero n k = omega arith
 
 -- the plan as it is drawn is framed too
 pub drawn-framed : (s : Shape) (cells : List ℤ) → Sound s cells → (s .k ≤ length (s .sizes)) × Framed (sizesOf s) cells

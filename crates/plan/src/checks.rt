@@ -64,6 +64,13 @@ fn all_fit(numbers: &[u32], most: u32, k: usize) -> bool
     true
 }
 
+// Whether no layer has a margin: the grown plan is then the plan.
+pub fn is_drawn(shape: Shape) -> bool
+    ensures { λ r. ⌜ r ≡ allFit 0 mostLayers 0 (shape .margins) ⌝ }
+{
+    all_fit(&shape.margins, 0, MOST_LAYERS)
+}
+
 fn fits_at(n: u32, most: u32, j: usize, k: usize) -> bool
     ensures { λ r. ⌜ r ≡ fitsAt most k j n ⌝ }
 {

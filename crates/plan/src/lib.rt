@@ -5,6 +5,7 @@ mod checks;
 mod margins;
 
 pub use checks::count_of;
+pub use checks::is_drawn;
 pub use checks::plan_cause;
 use geometry::Rect;
 pub use margins::grow_plan;

@@ -1,10 +1,58 @@
-// The report program (01, "The report").
-use reporting::answer;
-use reporting::input_buffer;
-use reporting::report_buffer;
+// The report program (01, "The report"): reads a text, has the report on it made, and writes that.
+use libc::STDIN_FILENO;
+use libc::STDOUT_FILENO;
+use reporting::report;
+ghost use mathlib.Core.Path.{_≡_};
+ghost use Prim.Native.Nat.{_≤_};
+ghost use lib.ListN.{length, take, replicate};
+ghost use Rattle.reporting.specs.Report.{outAfter};
 
 fn main() {
     let mut text = input_buffer();
     let mut out = report_buffer();
     answer(&mut text, &mut out);
+}
+
+// Zeros for the program's two buffers: one byte more than a text may have, which tells that there are more, and room for any report.
+fn input_buffer() -> [u8; 65537]
+    ensures { λ r. ⌜ 65537 ≡ length r ⌝ }
+    ensures { λ r. ⌜ r ≡ replicate 65537 0 ⌝ }
+{
+    [0; 65537]
+}
+
+fn report_buffer() -> [u8; 655360]
+    ensures { λ r. ⌜ 655360 ≡ length r ⌝ }
+    ensures { λ r. ⌜ r ≡ replicate 655360 0 ⌝ }
+{
+    [0; 655360]
+}
+
+// Reads a text from standard input into a lent buffer, has the report made in the other, and writes it to standard output; how many
+// bytes it read. The system is trusted for what no contract can say: that these bytes are the input, all of it where there are fewer
+// than 65,537, and that the bytes written reach standard output.
+fn answer(text: &mut [u8; 65537], out: &mut [u8; 655360]) -> usize
+    ensures read { λ n. ⌜ (n ≤ 65537) × (length (now (text .exit)) ≡ 65537) ⌝ }
+    ensures made { λ n. ⌜ now (out .exit) ≡ outAfter (take n (now (text .exit))) (now (out .entry)) ⌝ }
+{
+    let n = io::read_full(STDIN_FILENO, text);
+    let size = report_first(text, n, out);
+    write_first(out, size);
+    n
+}
+
+// The report on the first n bytes of a buffer; its length.
+fn report_first(text: &[u8], n: usize, out: &mut [u8; 655360]) -> usize
+    requires { ⌜ (n ≤ length (now text)) × (n ≡ length (take n (now text))) ⌝ }
+    ensures { λ _. ⌜ now (out .exit) ≡ outAfter (take n (now (text .entry))) (now (out .entry)) ⌝ }
+    ensures { λ r. ⌜ (r ≤ length (now (out .exit))) × (r ≡ length (take r (now (out .exit)))) ⌝ }
+{
+    report(&text[..n], out)
+}
+
+// Writes the first n bytes of a buffer to standard output.
+fn write_first(buf: &[u8], n: usize)
+    requires { ⌜ (n ≤ length (now buf)) × (n ≡ length (take n (now buf))) ⌝ }
+{
+    io::write_all(STDOUT_FILENO, &buf[..n]);
 }

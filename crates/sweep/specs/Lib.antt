@@ -1,4 +1,3 @@
 pub mod Sweep
 pub mod Theorems
 pub mod Merging
-pub mod Opening

@@ -1,18 +1,18 @@
 // The sweep order of a plan: made in a lent buffer, and told from any other.
 mod order;
 
-use order::is_order;
+pub use order::is_order;
 use plan::MOST_CELLS;
 use plan::Shape;
 use plan::grow_plan;
+use plan::is_drawn;
 use plan::plan_cause;
 ghost use mathlib.Core.Path.{_≡_};
-ghost use Prim.Native.Nat.{_≤_};
 ghost use lib.ListN.{length};
-ghost use Rattle.plan.specs.Limits.{mostCells};
+ghost use Rattle.lists.specs.Lists.{same};
+ghost use Rattle.plan.specs.Causes.{unless};
 ghost use Rattle.plan.specs.Plan.{count, grown, Sound};
 ghost use Rattle.sweep.specs.Sweep.{sweepOrder, orderCause, makeCause, orderAnswer, orderNumber, orderAfter};
-ghost use Rattle.sweep.specs.Opening.{Opened};
 
 // What the order maker answers.
 pub enum OrderAnswer {
@@ -52,20 +52,30 @@ fn fill_grown(shape: Shape, cells: &[i32], order: &mut [u32])
 pub fn order_cause(shape: Shape, cells: &[i32], order: &[u32]) -> u32
     ensures { λ r. ⌜ r ≡ orderCause shape (now (cells .entry)) (now (order .entry)) ⌝ }
 {
-    let mut run = [0i32; MOST_CELLS];
-    open_plan(shape, cells, order, &mut run)
-}
-
-// The first of the causes 1 to 5 and 17 that applies to a plan and an order, or 0; the run then begins with the cells of the grown plan.
-pub fn open_plan(shape: Shape, cells: &[i32], order: &[u32], run: &mut [i32]) -> u32
-    requires { ⌜ mostCells ≤ length (now run) ⌝ }
-    ensures { λ r. ⌜ Opened shape (now (cells .entry)) (now (order .entry)) r (now (run .exit)) ⌝ }
-{
     let cause = plan_cause(shape, cells);
     if cause != 0 {
         return cause;
     }
-    grow_plan(shape, cells, run);
+    if is_drawn(shape) {
+        return cause_over(cells, order);
+    }
+    cause_grown(shape, cells, order)
+}
+
+// 5, or 0 where the order is that of the grown cells.
+fn cause_over(grown: &[i32], order: &[u32]) -> u32
+    ensures { λ r. ⌜ r ≡ unless (same (now (order .entry)) (sweepOrder (now (grown .entry)))) 5 ⌝ }
+{
+    if is_order(grown, order) { 0 } else { 5 }
+}
+
+// The same of a sound plan, which is grown first.
+fn cause_grown(shape: Shape, cells: &[i32], order: &[u32]) -> u32
+    requires { ⌜ Sound shape (now cells) ⌝ }
+    ensures { λ r. ⌜ r ≡ unless (same (now (order .entry)) (sweepOrder (grown shape (now (cells .entry))))) 5 ⌝ }
+{
+    let mut run = [0i32; MOST_CELLS];
+    grow_plan(shape, cells, &mut run);
     let n = cells.len();
-    if is_order(&run[..n], order) { 0 } else { 5 }
+    cause_over(&run[..n], order)
 }

@@ -1,24 +1,19 @@
--- `pager::fetch_page`: a refusal by the checks before 6, or the page at the cursor.
+-- `pager::fetch_page`: a refusal by the checks of the plan, or the page over its cells as drawn or grown.
 use borrow.Author.Needs.{needs}
-use lib.ListN.{length, take}
-use Rattle.plan.specs.Plan.{Typed}
-use Rattle.plan.proofs.Growing.{part-long}
-use Rattle.pager.proofs.Calls.{Admitted, admitted, page-refused, page-made}
+use mathlib.Core.Path.{sym, _∙_}
+use Rattle.plan.specs.Plan.{Typed, Sound}
+use Rattle.plan.proofs.Growing.{drawn-framed, drawn-grown}
+use Rattle.sweep.proofs.Orders.{checked-plan}
+use Rattle.pager.proofs.Calls.{page-refused}
 use Rattle.pager.proofs.fetch_page.Statement.{statement}
 use Rattle.pager.proofs.fetch_page.Tie as tie
 
-typed : (c : tie.Start) → Typed (c .args .shape)
-typed c = record { sizes = search needs; margins = search needs }
+-- the plan is sound behind its checks
+sound : (c : tie.Else1) → let a = c .before .before .before .before .before .args in Sound (a .shape) (a .cells .now)
+sound c = record { typed = record { sizes = search needs; margins = search needs }; passed = sym (c .before .plan-cause .ensures) ∙ c .if1 .left }
 
--- the checks are passed
-opening : (c : tie.After-frame-of) → let a = c .before .before .before .before .before .before .before .before .args in Admitted (a .shape) (a .cells .now) (a .order .now) (take (length (a .cells .now)) (c .before .before .before .open-plan .last .1 .1 .1 .0)) (c .frame-of .result)
-opening c = let s : tie.Start = search needs in let e : tie.Else1 = search needs in admitted _ _ _ _ _ _ (typed s) (c .before .before .before .open-plan .ensures) (e .if1 .left) (c .frame-of .ensures)
-
-slice-aggregate-open-plan : tie.Need-slice-aggregate-open-plan
-slice-aggregate-open-plan c = search needs
-
-open-plan-requires : tie.Need-open-plan-requires
-open-plan-requires c κs = search needs
+plan-cause-requires : tie.Need-plan-cause-requires
+plan-cause-requires c κs = search needs
 
 refused-page-requires : tie.Need-refused-page-requires
 refused-page-requires c κs = search needs
@@ -26,24 +21,19 @@ refused-page-requires c κs = search needs
 returns : tie.Need-returns
 returns c =
     let s : tie.Start = search needs in
-    let k : tie.After-open-plan = search needs in
+    let p : tie.After-plan-cause = search needs in
+    let t : tie.Then1 = search needs in
     let a = s .args in
-    page-refused (a .shape) (a .cells .now) (a .order .now) (a .ticket) (a .counter .now) (a .budget) (a .table .now) _ (k .open-plan .ensures .number) (c .before .if1 .taken) _ (c .refused-page .ensures)
+    page-refused (a .shape) (a .cells .now) (a .order .now) (a .ticket) (a .counter .now) (a .budget) (a .table .now) _ (checked-plan _ _ _ _ (p .plan-cause .ensures) (t .if1 .taken)) (t .if1 .taken) _ (c .refused-page .ensures)
 
-frame-of-requires : tie.Need-frame-of-requires
-frame-of-requires c κs = search needs
+is-drawn-requires : tie.Need-is-drawn-requires
+is-drawn-requires c κs = search needs
 
-array-share-prefix-run : tie.Need-array-share-prefix-run
-array-share-prefix-run c = let e : tie.Else1 = search needs in c .before .before .before .open-plan .ensures .grown (e .if1 .left) .fits
-
-slice-aggregate-page-at : tie.Need-slice-aggregate-page-at
-slice-aggregate-page-at c =
-    let k : tie.After-open-plan = search needs in
+page-over-requires : tie.Need-page-over-requires
+page-over-requires c κs =
+    let s : tie.Start = search needs in
     let e : tie.Else1 = search needs in
-    part-long _ _ _ (k .open-plan .ensures .grown (e .if1 .left))
-
-page-at-requires : tie.Need-page-at-requires
-page-at-requires c κs = let k : tie.After-frame-of = search needs in let o = opening k in (o .framing, o .ordered)
+    drawn-framed (s .args .shape) (s .args .cells .now) (sound e)
 
 same-length : tie.Need-same-length
 same-length c = search needs
@@ -53,23 +43,39 @@ same-length-2 c = search needs
 
 returns-2 : tie.Need-returns-2
 returns-2 c =
-    let k : tie.After-frame-of = search needs in
-    let p : tie.After-page-at = search needs in
-    let a = k .before .before .before .before .before .before .before .before .args in
-    page-made (a .shape) (a .cells .now) (a .order .now) (a .ticket) (a .counter .now) (a .budget) (a .table .now) _ (k .frame-of .result) (opening k) _ _ _ (p .page-at .ensures)
+    let s : tie.Start = search needs in
+    let e : tie.Else1 = search needs in
+    let d : tie.After-is-drawn = search needs in
+    let t : tie.Then2 = search needs in
+    let o : tie.After-page-over = search needs in
+    let a = s .args in
+    o .page-over .ensures (a .cells .now) (sound e) (drawn-grown (a .shape) (a .cells .now) (sound e) (sym (d .is-drawn .ensures) ∙ t .if2 .taken))
+
+page-grown-requires : tie.Need-page-grown-requires
+page-grown-requires c κs = search needs
+
+same-length-3 : tie.Need-same-length-3
+same-length-3 c = search needs
+
+same-length-4 : tie.Need-same-length-4
+same-length-4 c = search needs
+
+returns-3 : tie.Need-returns-3
+returns-3 c = search needs
 
 pub fetch-page-spec : {M : Type 1} → statement M
 fetch-page-spec =
     tie.close
     (tie.spec
-    slice-aggregate-open-plan
-    open-plan-requires
+    plan-cause-requires
     refused-page-requires
     returns
-    frame-of-requires
-    array-share-prefix-run
-    slice-aggregate-page-at
-    page-at-requires
+    is-drawn-requires
+    page-over-requires
     same-length
     same-length-2
-    returns-2)
+    returns-2
+    page-grown-requires
+    same-length-3
+    same-length-4
+    returns-3)

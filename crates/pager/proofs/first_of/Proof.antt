@@ -1,65 +1,65 @@
--- `pager::first_of`: a refusal, or the cursor of the whole walk.
+-- `pager::first_of`: a refusal by the checks of the plan, or the cursor over its cells as drawn or grown.
 use borrow.Author.Needs.{needs}
-use lib.ListN.{length, take}
-use Rattle.plan.specs.Plan.{Typed}
-use Rattle.plan.proofs.Growing.{part-long}
-use Rattle.pager.proofs.Calls.{Admitted, admitted, first-refused, first-made}
+use mathlib.Core.Path.{sym, _∙_}
+use Rattle.plan.specs.Plan.{Typed, Sound}
+use Rattle.plan.proofs.Growing.{drawn-framed, drawn-grown}
+use Rattle.sweep.proofs.Orders.{checked-plan}
+use Rattle.pager.proofs.Calls.{first-refused}
 use Rattle.pager.proofs.first_of.Statement.{statement}
 use Rattle.pager.proofs.first_of.Tie as tie
 
-typed : (c : tie.Start) → Typed (c .args .shape)
-typed c = record { sizes = search needs; margins = search needs }
+-- the plan is sound behind its checks
+sound : (c : tie.Else1) → let a = c .before .before .before .args in Sound (a .shape) (a .cells .now)
+sound c = record { typed = record { sizes = search needs; margins = search needs }; passed = sym (c .before .plan-cause .ensures) ∙ c .if1 .left }
 
--- the checks are passed
-opening : (c : tie.After-frame-of) → let a = c .before .before .before .before .before .before .args in Admitted (a .shape) (a .cells .now) (a .order .now) (take (length (a .cells .now)) (c .before .before .before .open-plan .last .1 .1 .1 .0)) (c .frame-of .result)
-opening c = let s : tie.Start = search needs in let e : tie.Else1 = search needs in admitted _ _ _ _ _ _ (typed s) (c .before .before .before .open-plan .ensures) (e .if1 .left) (c .frame-of .ensures)
+plan-cause-requires : tie.Need-plan-cause-requires
+plan-cause-requires c κs = search needs
 
-slice-aggregate-open-plan : tie.Need-slice-aggregate-open-plan
-slice-aggregate-open-plan c = search needs
-
-open-plan-requires : tie.Need-open-plan-requires
-open-plan-requires c κs = search needs
-
-ended-cursor-requires : tie.Need-ended-cursor-requires
-ended-cursor-requires c κs = search needs
+refused-first-requires : tie.Need-refused-first-requires
+refused-first-requires c κs = search needs
 
 returns : tie.Need-returns
 returns c =
     let s : tie.Start = search needs in
-    let k : tie.After-open-plan = search needs in
+    let p : tie.After-plan-cause = search needs in
+    let t : tie.Then1 = search needs in
     let a = s .args in
-    rw (c .ended-cursor .ensures) (first-refused (a .shape) (a .cells .now) (a .order .now) _ (k .open-plan .ensures .number) (c .before .if1 .taken))
+    c .refused-first .ensures ∙ first-refused (a .shape) (a .cells .now) (a .order .now) _ (checked-plan _ _ _ _ (p .plan-cause .ensures) (t .if1 .taken)) (t .if1 .taken)
 
-frame-of-requires : tie.Need-frame-of-requires
-frame-of-requires c κs = search needs
+is-drawn-requires : tie.Need-is-drawn-requires
+is-drawn-requires c κs = search needs
 
-array-share-prefix-run : tie.Need-array-share-prefix-run
-array-share-prefix-run c = let e : tie.Else1 = search needs in c .before .before .before .open-plan .ensures .grown (e .if1 .left) .fits
-
-slice-aggregate-first-cursor : tie.Need-slice-aggregate-first-cursor
-slice-aggregate-first-cursor c =
-    let k : tie.After-open-plan = search needs in
+first-over-requires : tie.Need-first-over-requires
+first-over-requires c κs =
+    let s : tie.Start = search needs in
     let e : tie.Else1 = search needs in
-    part-long _ _ _ (k .open-plan .ensures .grown (e .if1 .left))
-
-first-cursor-requires : tie.Need-first-cursor-requires
-first-cursor-requires c κs = let k : tie.After-frame-of = search needs in let o = opening k in (o .framing, o .ordered)
+    drawn-framed (s .args .shape) (s .args .cells .now) (sound e)
 
 returns-2 : tie.Need-returns-2
 returns-2 c =
-    let k : tie.After-frame-of = search needs in
-    first-made _ _ _ _ (k .frame-of .result) (opening k) _ (c .first-cursor .ensures)
+    let s : tie.Start = search needs in
+    let e : tie.Else1 = search needs in
+    let d : tie.After-is-drawn = search needs in
+    let t : tie.Then2 = search needs in
+    let o : tie.After-first-over = search needs in
+    let a = s .args in
+    o .first-over .ensures (a .cells .now) (sound e) (drawn-grown (a .shape) (a .cells .now) (sound e) (sym (d .is-drawn .ensures) ∙ t .if2 .taken))
+
+first-grown-requires : tie.Need-first-grown-requires
+first-grown-requires c κs = search needs
+
+returns-3 : tie.Need-returns-3
+returns-3 c = search needs
 
 pub first-of-spec : {M : Type 1} → statement M
 first-of-spec =
     tie.close
     (tie.spec
-    slice-aggregate-open-plan
-    open-plan-requires
-    ended-cursor-requires
+    plan-cause-requires
+    refused-first-requires
     returns
-    frame-of-requires
-    array-share-prefix-run
-    slice-aggregate-first-cursor
-    first-cursor-requires
-    returns-2)
+    is-drawn-requires
+    first-over-requires
+    returns-2
+    first-grown-requires
+    returns-3)

@@ -1,13 +1,12 @@
--- `starts` compares a word byte by byte. The loop's invariant: the rest of the word decides.
-use mathlib.Core.Path.{_≡_, sym, ap, _∙_}
+-- `starts` compares a word byte by byte, where the text is long enough. The loop's invariant: the rest of the word decides.
+use mathlib.Core.Path.{_≡_, ap}
 use Prim.Native.Nat.{ℕ, _+_, _-_}
 use native.Mathlib.Omega.{arith}
-use lib.ListN.{length, drop}
+use lib.ListN.{length, drop, length-drop}
 use denote.Ref.{now}
 use borrow.Author.Needs.{needs}
-use borrow.Author.Tests.{not-true, not-false}
 use Rattle.line.specs.Places.{startsWith}
-use Rattle.line.proofs.Words.{Matching, differs, matches, all-match}
+use Rattle.line.proofs.Words.{too-short, Matching, differs, matches, all-match}
 use Rattle.line.proofs.parse.starts.Statement.{statement}
 use Rattle.line.proofs.parse.starts.Tie as tie
 
@@ -17,9 +16,17 @@ Inv-loop s at word i₀ i = Matching s at word i
 abbrev μ-loop : tie.MeasureT-loop
 μ-loop s at word i₀ i = length word - i
 
+sub-if1 : tie.Need-sub-if1 Inv-loop μ-loop
+sub-if1 c = search needs
+
+returns : tie.Need-returns Inv-loop μ-loop
+returns c =
+    let a = c .before .args in
+    too-short (now (a .word)) (drop (a .at) (now (a .s))) (omega (arith, length-drop (a .at) (now (a .s))))
+
 loop-holds : tie.Need-loop-holds Inv-loop μ-loop
 loop-holds c =
-    let a = c .before .before .args in
+    let a = c .before .args in
     let e : a .at + 0 ≡ a .at = omega arith in
     record {
       inside = omega arith;
@@ -27,20 +34,20 @@ loop-holds c =
       same = ap (λ (j : ℕ). startsWith (now (a .word)) (drop j (now (a .s)))) e;
     }
 
-add-next-is : tie.Need-add-next-is Inv-loop μ-loop
-add-next-is c = omega arith
+add-if2 : tie.Need-add-if2 Inv-loop μ-loop
+add-if2 c = omega arith
 
-shared-slice-read-next-is : tie.Need-shared-slice-read-next-is Inv-loop μ-loop
-shared-slice-read-next-is c = omega arith
+shared-slice-read-if2 : tie.Need-shared-slice-read-if2 Inv-loop μ-loop
+shared-slice-read-if2 c = omega arith
 
-next-is-requires : tie.Need-next-is-requires Inv-loop μ-loop
-next-is-requires c κs = search needs
+shared-slice-read-if2-2 : tie.Need-shared-slice-read-if2-2 Inv-loop μ-loop
+shared-slice-read-if2-2 c = omega arith
 
-returns : tie.Need-returns Inv-loop μ-loop
-returns c =
-    let a = c .before .before .before .before .before .before .before .args in
+returns-2 : tie.Need-returns-2 Inv-loop μ-loop
+returns-2 c =
     let l = c .before .before .before .before .loop in
-    differs (now (a .s)) (now (a .word)) (a .at) (l .i) (omega arith) (sym (c .before .next-is .ensures) ∙ not-true _ (c .if1 .taken)) (l .inv)
+    let a = c .before .before .before .before .before .before .args in
+    differs (now (a .s)) (now (a .word)) (a .at) (l .i) (l .inv) (omega arith) (c .if2 .taken)
 
 add-i : tie.Need-add-i Inv-loop μ-loop
 add-i c = omega arith
@@ -50,15 +57,15 @@ loop-less c = omega arith
 
 loop-again : tie.Need-loop-again Inv-loop μ-loop
 loop-again c =
-    let a = c .before .before .before .before .before .before .before .args in
     let l = c .before .before .before .before .loop in
-    matches (now (a .s)) (now (a .word)) (a .at) (l .i) (omega arith) (sym (c .before .next-is .ensures) ∙ not-false _ (c .if1 .left)) (l .inv)
+    let a = c .before .before .before .before .before .before .args in
+    matches (now (a .s)) (now (a .word)) (a .at) (l .i) (l .inv) (omega arith) (c .if2 .left)
 
-returns-2 : tie.Need-returns-2 Inv-loop μ-loop
-returns-2 c =
-    let a = c .before .before .before .before .args in
+returns-3 : tie.Need-returns-3 Inv-loop μ-loop
+returns-3 c =
     let l = c .before .loop in
-    all-match (now (a .s)) (now (a .word)) (a .at) (l .i) (omega arith) (l .inv)
+    let a = c .before .before .before .args in
+    all-match (now (a .s)) (now (a .word)) (a .at) (l .i) (l .inv) (omega arith)
 
 pub starts-spec : {M : Type 1} → statement M
 starts-spec =
@@ -66,12 +73,14 @@ starts-spec =
     (tie.spec
     Inv-loop
     μ-loop
-    loop-holds
-    add-next-is
-    shared-slice-read-next-is
-    next-is-requires
+    sub-if1
     returns
+    loop-holds
+    add-if2
+    shared-slice-read-if2
+    shared-slice-read-if2-2
+    returns-2
     add-i
     loop-less
     loop-again
-    returns-2)
+    returns-3)

@@ -1,0 +1,136 @@
+// The calls on a plan that its own checks let through: over its grown cells, which are the cells as drawn where no layer has a margin, and over a copy that is
+// grown where one has. Check 5 is made here, since the order is that of the grown plan.
+use crate::answers::First;
+use crate::answers::first_cursor;
+use crate::answers::page_at;
+use crate::answers::refused_page;
+use crate::answers::run_from;
+use crate::answers::with_ground;
+use cursors::ended_cursor;
+use paging::Page;
+use paging::Run;
+use paging::Ticket;
+use plan::MOST_CELLS;
+use plan::Shape;
+use plan::grow_plan;
+use slots::frame_of;
+use sweep::is_order;
+ghost use mathlib.Core.Path.{_≡_};
+ghost use Prim.Native.Nat.{_≤_};
+ghost use lib.ListN.{length};
+ghost use Rattle.plan.specs.Plan.{sizesOf, Sound};
+ghost use Rattle.plan.specs.Frames.{Framed};
+ghost use Rattle.paging.specs.Cursors.{endedCursor};
+ghost use Rattle.pager.specs.Answers.{firstOf, OverGrown, AsPage, AsRun};
+
+// ---- the first cursor
+pub fn refused_first(number: u32) -> First
+    ensures { λ r. ⌜ r ≡ record { number = number; cursor = endedCursor } ⌝ }
+{
+    First {
+        number,
+        cursor: ended_cursor(),
+    }
+}
+
+pub fn first_over(shape: Shape, grown: &[i32], order: &[u32]) -> First
+    requires { ⌜ (shape .k ≤ length (shape .sizes)) × Framed (sizesOf shape) (now grown) ⌝ }
+    ensures { λ r. ⌜ OverGrown shape (now (grown .entry)) (λ cells. r ≡ firstOf shape cells (now (order .entry))) ⌝ }
+{
+    if !is_order(grown, order) {
+        return refused_first(5);
+    }
+    First {
+        number: 0,
+        cursor: first_cursor(frame_of(shape), grown, order),
+    }
+}
+
+pub fn first_grown(shape: Shape, cells: &[i32], order: &[u32]) -> First
+    requires { ⌜ Sound shape (now cells) ⌝ }
+    ensures { λ r. ⌜ r ≡ firstOf shape (now (cells .entry)) (now (order .entry)) ⌝ }
+{
+    let mut run = [0i32; MOST_CELLS];
+    grow_plan(shape, cells, &mut run);
+    let n = cells.len();
+    first_over(shape, &run[..n], order)
+}
+
+// ---- a page
+pub fn page_over(
+    shape: Shape,
+    grown: &[i32],
+    order: &[u32],
+    ticket: Ticket,
+    counter: &mut [u64],
+    budget: u32,
+    table: &mut [u32],
+) -> Page
+    requires { ⌜ (shape .k ≤ length (shape .sizes)) × Framed (sizesOf shape) (now grown) ⌝ }
+    ensures { λ r. ⌜ OverGrown shape (now (grown .entry)) (λ cells. AsPage shape cells (now (order .entry)) ticket (now (counter .entry)) budget (now (table .entry)) r (now (counter .exit)) (now (table .exit))) ⌝ }
+{
+    if !is_order(grown, order) {
+        return refused_page(5, ticket);
+    }
+    page_at(
+        frame_of(shape),
+        grown,
+        order,
+        ticket,
+        counter,
+        budget,
+        table,
+    )
+}
+
+pub fn page_grown(
+    shape: Shape,
+    cells: &[i32],
+    order: &[u32],
+    ticket: Ticket,
+    counter: &mut [u64],
+    budget: u32,
+    table: &mut [u32],
+) -> Page
+    requires { ⌜ Sound shape (now cells) ⌝ }
+    ensures { λ r. ⌜ AsPage shape (now (cells .entry)) (now (order .entry)) ticket (now (counter .entry)) budget (now (table .entry)) r (now (counter .exit)) (now (table .exit)) ⌝ }
+{
+    let mut run = [0i32; MOST_CELLS];
+    grow_plan(shape, cells, &mut run);
+    let n = cells.len();
+    page_over(shape, &run[..n], order, ticket, counter, budget, table)
+}
+
+// ---- the whole run
+pub fn run_over(
+    shape: Shape,
+    grown: &[i32],
+    order: &[u32],
+    table: &mut [u32],
+    work: &mut [i32],
+) -> Run
+    requires { ⌜ (shape .k ≤ length (shape .sizes)) × Framed (sizesOf shape) (now grown) ⌝ }
+    ensures { λ r. ⌜ OverGrown shape (now (grown .entry)) (λ cells. AsRun shape cells (now (order .entry)) (now (table .entry)) (now (work .entry)) r (now (table .exit)) (now (work .exit))) ⌝ }
+{
+    if !is_order(grown, order) {
+        return Run::Refused(5);
+    }
+    let listing = run_from(frame_of(shape), grown, order, table, work);
+    with_ground(listing, shape, grown, table, work)
+}
+
+pub fn run_grown(
+    shape: Shape,
+    cells: &[i32],
+    order: &[u32],
+    table: &mut [u32],
+    work: &mut [i32],
+) -> Run
+    requires { ⌜ Sound shape (now cells) ⌝ }
+    ensures { λ r. ⌜ AsRun shape (now (cells .entry)) (now (order .entry)) (now (table .entry)) (now (work .entry)) r (now (table .exit)) (now (work .exit)) ⌝ }
+{
+    let mut run = [0i32; MOST_CELLS];
+    grow_plan(shape, cells, &mut run);
+    let n = cells.len();
+    run_over(shape, &run[..n], order, table, work)
+}
