@@ -1,7 +1,7 @@
 /* The calls of the plan overlay for C and C++. Link with libcapi.a, which `rt staticlib capi` writes to target/staticlib. x86-64 Linux.
  *
  * Every call returns the number of the first cause that refuses it, or 0. A refusal leaves every buffer as it was and 0 in all cells of an answer; the
- * fresh ticket is then the ended one with count 0, and a page leaves its ticket as it was.
+ * fresh ticket is then the ended one with count 0, and a page or a round leaves its tickets as they were.
  *
  * A plan is k, six sizes, six margins (those past k are 0) and its cells. Wherever a call compares, sorts or measures a rectangle, it is the one grown
  * by its layer's margin on all four sides: table, order, pages, guards, areas, pairs, classes and gaps are those of the grown rectangles. Cause 4 and
@@ -23,7 +23,7 @@
 #include <stdint.h>
 
 /* The version of this interface: another one where a declaration, a number or the order of cells is another, or one comes. */
-#define OVERLAY_VERSION 9
+#define OVERLAY_VERSION 10
 
 /* The largest plan: layers, rectangles, cells, a layer's margin in millimetres, and the bytes of the longest text, which is proved. So much is enough
  * for every plan. */
@@ -62,6 +62,7 @@ enum overlay_cause {
     OVERLAY_CAUSE_WORK = 19,        /* the work buffer is shorter than two cells for each row */
     OVERLAY_CAUSE_RECORD = 20,      /* the corners are not four a record, or one is not finite, out of order or beyond a million when covered */
     OVERLAY_CAUSE_STRIP = 21,       /* a strip's stop is not finite, its lower one is above its upper one, or its kind is above 3 */
+    OVERLAY_CAUSE_ROUND = 22,       /* a round has not 1 to 16 clients, its first is none of them, its budget is above 2^32 - 1, or there is not a record for each */
     OVERLAY_CAUSE_PLACES = 23       /* there are not k places, or a place is not in its layer */
 };
 
@@ -89,6 +90,13 @@ enum {
 
 /* Why a page stopped: all rows are handed out, the table holds no more, the budget is used up; 0 after a refusal. */
 enum overlay_stop { OVERLAY_REFUSED = 0, OVERLAY_ENDED = 1, OVERLAY_FULL = 2, OVERLAY_SPENT = 3 };
+
+/* The cells of a round's tickets and pages: those of client 1 come first, then those of the others up to 16. */
+enum {
+    OVERLAY_MOST_CLIENTS = 16,
+    OVERLAY_ROUND_TICKETS = 192, /* twelve for each ticket */
+    OVERLAY_ROUND_PAGES = 64     /* four for each page */
+};
 
 /* The cells of a whole run's answer. */
 enum {
@@ -203,6 +211,17 @@ uint32_t overlay_fetch_page(uint32_t k, const uint32_t sizes[6], const uint32_t 
                             size_t cells_length, const uint32_t *order, size_t order_length, uint32_t ticket[12],
                             uint64_t *counter, size_t counter_length, uint32_t budget, uint32_t *table,
                             size_t table_length, uint64_t answer[4]);
+
+/* A round: m clients, 1 to 16, page through one plan out of one budget, which may be up to 2^32 - 1. They are served in turn, 1 after m, from `first` on. Each
+ * makes one page call, as overlay_fetch_page, with its own ticket, its own cell of the counters, the probes left divided by the clients still to serve,
+ * and its own part of the table: the table is cut into m parts of table_length / (k * m) rows, that of client 1 first, and the cells behind them keep
+ * what they held. `next` is left with the client that the next round starts with, and the answer with the page of each client; past m it says Spent
+ * and 0, and the tickets there stay as they were. No client is served where one is refused. Tells 1, 2, 17, 3, 4, 5, 22, and then 6 and 18 of the lowest
+ * client that has one; after a refusal `next` is 0. */
+uint32_t overlay_round(uint32_t k, const uint32_t sizes[6], const uint32_t margins[6], const int32_t *cells,
+                       size_t cells_length, const uint32_t *order, size_t order_length, uint32_t m, uint32_t first,
+                       uint64_t budget, uint32_t tickets[192], uint64_t *counters, size_t counters_length,
+                       uint32_t *table, size_t table_length, uint32_t *next, uint64_t answer[64]);
 
 /* All rows of a plan's table. Cells of the table behind the rows keep what they held. The work buffer has two cells or more for each row: as many cells as
  * the table are always enough. Tells 1, 2, 17, 3, 4, 5, 7 and 19. */

@@ -64,6 +64,21 @@ static uint32_t fetch_page(void)
     while (cause == 0 && answer[OVERLAY_PAGE_STOP] != OVERLAY_ENDED);
     return cause;
 }
+static uint32_t serve_round(void)
+{
+    static uint32_t tickets[OVERLAY_ROUND_TICKETS];
+    static uint64_t records[OVERLAY_MOST_CLIENTS];
+    uint64_t answer[OVERLAY_ROUND_PAGES];
+    uint32_t next;
+    for (int i = 0; i < OVERLAY_MOST_CLIENTS; i++) {
+        memcpy(tickets + i * OVERLAY_TICKET_CELLS, ticket, sizeof ticket);
+        records[i] = record;
+    }
+    return overlay_round(k, sizes, margins, cells, OVERLAY_MOST_CELLS, order, OVERLAY_MOST_RECTS, OVERLAY_MOST_CLIENTS,
+                         16, 160000, tickets, records, OVERLAY_MOST_CLIENTS, table, OVERLAY_MOST_RECTS, &next,
+                         answer) ||
+           next != 1;
+}
 static uint32_t run_all(void)
 {
     uint64_t answer[OVERLAY_RUN_CELLS];
@@ -110,8 +125,9 @@ static const struct {
 } calls[] = {{"plan_cause", plan_cause}, {"make_order", make_order},           {"order_cause", order_cause},
              {"row", row},               {"row_common", row_common},           {"nearest", nearest},
              {"apart_pair", apart_pair}, {"row_class", row_class},             {"fresh_ticket", fresh_ticket},
-             {"fetch_page", fetch_page}, {"run_all", run_all},                 {"crossing_report", crossing_report},
-             {"write_text", write_text}, {"read_text", read_text},             {"cover_records", cover_records}};
+             {"round", serve_round},     {"fetch_page", fetch_page},           {"run_all", run_all},
+             {"crossing_report", crossing_report}, {"write_text", write_text}, {"read_text", read_text},
+             {"cover_records", cover_records}};
 enum { CALLS = sizeof calls / sizeof *calls };
 
 /* A stack of our own, and how much of it each call has used: all below the caller's frame is filled with a byte, and the lowest that is another one

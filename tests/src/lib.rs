@@ -2,9 +2,10 @@
 //!
 //! An overlay under test implements `overlay::Overlay` and is handed to `compare::compare` beside
 //! `reference::REFERENCE`; its report is handed to `reports::compare_reports` beside
-//! `reference::report`, and its call on survey records to `surveys::compare_surveys` beside
-//! `surveys::cover_records`. All give their counts, or the first difference with the whole case.
-//! `laws::try_laws` takes the overlay under test alone.
+//! `reference::report`, its call on survey records to `surveys::compare_surveys` beside
+//! `surveys::cover_records`, and its rounds to `rounds::compare_rounds` beside `rounds::round`. All
+//! give their counts, or the first difference with the whole case. `laws::try_laws` takes the overlay
+//! under test alone.
 
 pub mod call;
 pub mod compare;
@@ -15,6 +16,7 @@ pub mod nearest;
 pub mod overlay;
 pub mod reference;
 pub mod reports;
+pub mod rounds;
 pub mod seeds;
 pub mod surveys;
 pub mod wrong;

@@ -6,6 +6,7 @@ use overlay_tests::laws::{try_laws, LAWLESS, LAWS, WRONG_LAWS};
 use overlay_tests::nearest::{compare_nearest, nearest, WRONG_NEAREST};
 use overlay_tests::reference::{report, REFERENCE};
 use overlay_tests::reports::compare_reports;
+use overlay_tests::rounds::{compare_rounds, round, ByWords as RoundByWords, SLIPS as ROUND_SLIPS};
 use overlay_tests::surveys::{compare_surveys, cover_records, wrong_surveys};
 use overlay_tests::wrong::{Wrong, REPORT_SLIPS, SLIPS};
 use std::process::exit;
@@ -70,6 +71,16 @@ fn catch_wrong_crossings() {
     }
 }
 
+/// Every wrong round must differ from the right one somewhere.
+fn catch_wrong_rounds() {
+    for (slip, name) in ROUND_SLIPS {
+        match compare_rounds(&|lent| RoundByWords(Some(slip)).round(lent), &round) {
+            Err(found) => println!("wrong round caught after {} cases: {name}", found.cases),
+            Ok(_) => stop(&format!("wrong round not caught: {name}")),
+        }
+    }
+}
+
 /// Every wrong statement must be shown wrong by the reference, and every lawless overlay by the laws.
 fn catch_wrong_laws() {
     for (wrong, name) in WRONG_LAWS {
@@ -95,6 +106,7 @@ fn compare_with_itself() -> Tally {
     tally.add("surveys", surveys.unwrap_or_else(|found| stop(&found.text)));
     let crossings = compare_crossings(&ByWords(None), &ByWords(None));
     tally.add("crossings", crossings.unwrap_or_else(|found| stop(&found.text)));
+    tally.add("rounds", compare_rounds(&round, &round).unwrap_or_else(|found| stop(&found.text)));
     tally.add("laws", try_laws(&REFERENCE, &LAWS).unwrap_or_else(|found| stop(&found.text)));
     tally
 }
@@ -106,6 +118,7 @@ fn main() {
     catch_wrong_nearest();
     catch_wrong_surveys();
     catch_wrong_crossings();
+    catch_wrong_rounds();
     catch_wrong_laws();
     print!("{}", compare_with_itself());
 }

@@ -132,7 +132,7 @@ fn agree(header: &str, library: &str, wrapper: &str) -> bool {
 #[test]
 fn header_library_and_wrapper_agree() {
     let functions = in_header(HEADER);
-    assert_eq!(functions.len(), 15);
+    assert_eq!(functions.len(), 16);
     assert_eq!(functions, in_library(LIBRARY));
     assert_eq!(plain(&functions), in_wrapper(WRAPPER));
 }

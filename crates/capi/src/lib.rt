@@ -31,6 +31,10 @@ use pairs::apart_pair;
 use plan::Shape;
 use plan::plan_cause;
 use plan::rect_at;
+use roundcells::round_cells;
+use roundcells::tickets_after;
+use roundcells::tickets_in;
+use rounder::round;
 use rows::row;
 use rows::row_common;
 use survey::cover_records;
@@ -48,6 +52,8 @@ ghost use Rattle.rows.specs.RowCall.{rowCall, rowValues, commonCall, commonValu
 ghost use Rattle.pairs.specs.PairCall.{pairCall, pairValues};
 ghost use Rattle.crossings.specs.ClassCall.{classCall, classValues};
 ghost use Rattle.paging.specs.Calls.{freshCall, freshCounter, pageCause, pageCall, pageTable, pageCounter, runCause, runCall, runTable, WorkAfter, runValues, crossingRunCause, crossingCall, crossingTable};
+ghost use Rattle.rounds.specs.Rounds.{request, roundCause, roundCall, roundCounters, roundTable};
+ghost use Rattle.roundcells.specs.RoundCells.{ticketsIn, roundCells, ticketsAfter};
 ghost use Rattle.survey.specs.CoverCall.{coverCause, coverAnswer, coverValues, coverAfter};
 ghost use Rattle.text.specs.Reader.{readCause, readAnswer, cellsAfter};
 ghost use Rattle.text.specs.Writer.{writeCause, writeLength, bufferAfter};
@@ -311,6 +317,56 @@ pub extern "C" fn overlay_fetch_page(
     *ticket = ticket_after(ticket, page);
     let stop = page.stop;
     stop_number(stop)
+}
+
+// A round: m clients, served in turn from a given first one, each from its ticket on into its part of the table, within a budget of probes in all. The
+// cells of sixteen tickets are left with what is due next to each of the m, and the counters, their run records, with the counts; `next` is the client that
+// the next round starts with. The answer's cells, four for each of sixteen clients: why its page stopped, rows, probes, area.
+#[no_mangle]
+pub extern "C" fn overlay_round(
+    k: u32,
+    sizes: &[u32; 6],
+    margins: &[u32; 6],
+    cells: &[i32],
+    order: &[u32],
+    m: u32,
+    first: u32,
+    budget: u64,
+    tickets: &mut [u32; 192],
+    counters: &mut [u64],
+    table: &mut [u32],
+    next: &mut u32,
+    answer: &mut [u64; 64],
+) -> u32
+    ensures number { λ r. ⌜ r ≡ roundCause (request (shapeOf k (now (sizes .entry)) (now (margins .entry))) (now (cells .entry)) (now (order .entry)) m first budget (ticketsIn (now (tickets .entry))) (now (counters .entry)) (now (table .entry))) ⌝ }
+    ensures next { λ _. ⌜ now (next .exit) ≡ roundCall (request (shapeOf k (now (sizes .entry)) (now (margins .entry))) (now (cells .entry)) (now (order .entry)) m first budget (ticketsIn (now (tickets .entry))) (now (counters .entry)) (now (table .entry))) .next ⌝ }
+    ensures answer { λ _. ⌜ now (answer .exit) ≡ roundCells (roundCall (request (shapeOf k (now (sizes .entry)) (now (margins .entry))) (now (cells .entry)) (now (order .entry)) m first budget (ticketsIn (now (tickets .entry))) (now (counters .entry)) (now (table .entry))) .pages) ⌝ }
+    ensures tickets { λ _. ⌜ now (tickets .exit) ≡ ticketsAfter (now (tickets .entry)) m (roundCause (request (shapeOf k (now (sizes .entry)) (now (margins .entry))) (now (cells .entry)) (now (order .entry)) m first budget (ticketsIn (now (tickets .entry))) (now (counters .entry)) (now (table .entry)))) (roundCall (request (shapeOf k (now (sizes .entry)) (now (margins .entry))) (now (cells .entry)) (now (order .entry)) m first budget (ticketsIn (now (tickets .entry))) (now (counters .entry)) (now (table .entry))) .pages) ⌝ }
+    ensures counters { λ _. ⌜ now (counters .exit) ≡ roundCounters (request (shapeOf k (now (sizes .entry)) (now (margins .entry))) (now (cells .entry)) (now (order .entry)) m first budget (ticketsIn (now (tickets .entry))) (now (counters .entry)) (now (table .entry))) ⌝ }
+    ensures table { λ _. ⌜ now (table .exit) ≡ roundTable (request (shapeOf k (now (sizes .entry)) (now (margins .entry))) (now (cells .entry)) (now (order .entry)) m first budget (ticketsIn (now (tickets .entry))) (now (counters .entry)) (now (table .entry))) ⌝ }
+{
+    let six = *sizes;
+    let wide = *margins;
+    let told = round(
+        Shape {
+            k,
+            sizes: six,
+            margins: wide,
+        },
+        cells,
+        order,
+        m,
+        first,
+        budget,
+        tickets_in(tickets),
+        counters,
+        table,
+    );
+    let pages = told.pages;
+    *answer = round_cells(pages);
+    *tickets = tickets_after(tickets, m, told.number, pages);
+    *next = told.next;
+    told.number
 }
 
 // All rows of a plan's table. The answer's cells: rows, probes, area, ground counted once.

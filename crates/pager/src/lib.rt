@@ -4,7 +4,9 @@ mod counters;
 mod grown;
 
 use answers::First;
+pub use answers::page_at;
 use answers::refused_page;
+pub use answers::ticket_cause;
 use counters::fresh_cause;
 use counters::write_count;
 use cursors::ended_cursor;

@@ -1,9 +1,10 @@
 //! The calls of the C interface that `Overlay` does not have, and cells that are no ticket.
 
-use crate::ffi::{cells_of, fetch_page, order_cause, plan_cause, Library};
+use crate::ffi::{cells_of, fetch_page, order_cause, plan_cause, round_in_cells, Library};
 use overlay_tests::call::{cells_u32, Plan};
 use overlay_tests::overlay::{Overlay, Ticket};
 use overlay_tests::reference::{plan_fault, REFERENCE};
+use overlay_tests::rounds::Lent;
 use overlay_tests::seeds::{order, other_orders, tickets, Seeds, DAMAGES, STYLES};
 
 /// How many plans are drawn.
@@ -98,6 +99,39 @@ fn counts(seeds: &mut Seeds, plan: &Plan) -> Result<u64, String> {
     Ok(cases)
 }
 
+/// A round's cells past m stay what they were, whatever they hold; a tablet's flag that is neither 0 nor 1 is refused as 6, and all cells stay what they were.
+fn round_cells(seeds: &mut Seeds, plan: &Plan) -> Result<u64, String> {
+    let (good, mut record) = (order(plan), [0]);
+    let (_, fresh) = REFERENCE.fresh(&plan.shape, &plan.cells, &good, &mut record);
+    let (m, budget) = (1 + seeds.below(16) as u32, seeds.below(40));
+    let lent = Lent {
+        plan: plan.clone(),
+        order: good,
+        m,
+        first: m,
+        budget,
+        tickets: [fresh; 16],
+        records: vec![0; m as usize],
+        table: cells_u32(200),
+    };
+    let mut given: [u32; 192] = cells_u32(192).try_into().expect("192 cells");
+    for cells in given.chunks_mut(12).take(m as usize) {
+        cells.copy_from_slice(&cells_of(&fresh));
+    }
+    let (mut left, mut after) = (lent.clone(), given);
+    let (number, next, answer) = round_in_cells(&mut left, &mut after);
+    let past = 12 * m as usize;
+    let due = (0, 1, &given[past..], vec![3, 0, 0, 0].repeat(16 - m as usize));
+    let mut cases =
+        expect("round past m", plan, (number, next, &after[past..], answer[4 * m as usize..].to_vec()), due)?;
+    let (mut left, at) = (lent.clone(), 12 * seeds.below(u64::from(m)) as usize);
+    given[at] = seeds.pick(&[2, 3, 256, u32::MAX]);
+    let mut after = given;
+    let told = round_in_cells(&mut left, &mut after);
+    cases += expect("round flags", plan, (told, after, left), ((6, 0, [0; 64]), given, lent))?;
+    Ok(cases)
+}
+
 /// The order made for a plan is told to be its order.
 fn made_orders(plan: &Plan) -> Result<u64, String> {
     let mut made = cells_u32(plan.cells.len() / 4);
@@ -118,6 +152,7 @@ pub fn compare_extras() -> Result<u64, String> {
         cases += orders(&mut seeds, &plan)?;
         cases += flags(&mut seeds, &plan)?;
         cases += counts(&mut seeds, &plan)?;
+        cases += round_cells(&mut seeds, &plan)?;
         cases += made_orders(&plan)?;
     }
     Ok(cases)

@@ -5,6 +5,7 @@ use overlay_tests::nearest::{Near, NearestTold};
 use overlay_tests::overlay::{
     CommonTold, Overlay, Page, PairTold, Reading, RowTold, Run, Shape, Stop, Ticket, Writing,
 };
+use overlay_tests::rounds::{Lent, RoundTold};
 use overlay_tests::surveys::{Covered, Survey};
 
 #[link(name = "capi", kind = "static")]
@@ -99,6 +100,25 @@ extern "C" {
         budget: u32,
         table: *mut u32,
         table_length: usize,
+        answer: *mut u64,
+    ) -> u32;
+    fn overlay_round(
+        k: u32,
+        sizes: *const u32,
+        margins: *const u32,
+        cells: *const i32,
+        cells_length: usize,
+        order: *const u32,
+        order_length: usize,
+        m: u32,
+        first: u32,
+        budget: u64,
+        tickets: *mut u32,
+        counters: *mut u64,
+        counters_length: usize,
+        table: *mut u32,
+        table_length: usize,
+        next: *mut u32,
         answer: *mut u64,
     ) -> u32;
     fn overlay_run_all(
@@ -291,6 +311,50 @@ pub fn fetch_page(
         )
     };
     (number, answer)
+}
+
+/// The round call on sixteen tickets' cells: the number, `next`, and the cells of the answer.
+pub fn round_in_cells(lent: &mut Lent, tickets: &mut [u32; 192]) -> (u32, u32, [u64; 64]) {
+    let (mut next, mut answer) = (UNWRITTEN as u32, [UNWRITTEN; 64]);
+    let Lent { plan, order, m, first, budget, records, table, .. } = lent;
+    // SAFETY: every pointer comes from a reference, with its length; those written to are exclusive.
+    let number = unsafe {
+        overlay_round(
+            plan.shape.k,
+            plan.shape.sizes.as_ptr(),
+            plan.shape.margins.as_ptr(),
+            plan.cells.as_ptr(),
+            plan.cells.len(),
+            order.as_ptr(),
+            order.len(),
+            *m,
+            *first,
+            *budget,
+            tickets.as_mut_ptr(),
+            records.as_mut_ptr(),
+            records.len(),
+            table.as_mut_ptr(),
+            table.len(),
+            &mut next,
+            answer.as_mut_ptr(),
+        )
+    };
+    (number, next, answer)
+}
+
+/// A round of many tablets.
+pub fn round(lent: &mut Lent) -> RoundTold {
+    let mut tickets = [0; 192];
+    for (cells, ticket) in tickets.chunks_mut(12).zip(&lent.tickets) {
+        cells.copy_from_slice(&cells_of(ticket));
+    }
+    let (number, next, answer) = round_in_cells(lent, &mut tickets);
+    let page = |at: usize| {
+        let [code, rows, trials, area] = answer[4 * at..4 * at + 4].try_into().expect("four cells");
+        let ticket = ticket_in(tickets[12 * at..12 * at + 12].try_into().expect("twelve cells"));
+        Page { stop: stop_of(number, code), rows: small(rows), trials: small(trials), area, ticket }
+    };
+    RoundTold { number, next, pages: std::array::from_fn(page) }
 }
 
 /// Puts the covers of the kept records of a survey into the cells.

@@ -11,6 +11,7 @@ use overlay_tests::crossings::{compare_crossings, ByWords};
 use overlay_tests::laws::{try_laws, LAWS};
 use overlay_tests::nearest::{compare_nearest, nearest};
 use overlay_tests::reference::REFERENCE;
+use overlay_tests::rounds::{self, compare_rounds};
 use overlay_tests::surveys::{self, compare_surveys};
 use report::compare_program;
 use std::process::exit;
@@ -33,6 +34,8 @@ fn main() {
     tally.add("surveys", surveys.unwrap_or_else(|found| stop(&found.text, tally.cases())));
     let crossings = compare_crossings(&Library, &ByWords(None));
     tally.add("crossings", crossings.unwrap_or_else(|found| stop(&found.text, tally.cases())));
+    let rounds = compare_rounds(&ffi::round, &rounds::round);
+    tally.add("rounds", rounds.unwrap_or_else(|found| stop(&found.text, tally.cases())));
     let laws = try_laws(&Library, &LAWS).unwrap_or_else(|found| stop(&found.text, tally.cases()));
     tally.add("laws", laws);
     let reports = compare_program().unwrap_or_else(|found| stop(&found.text, tally.cases()));

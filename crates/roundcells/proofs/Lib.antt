@@ -1,0 +1,3 @@
+-- Laws of a round's cells.
+pub mod Puts
+pub mod Theorems

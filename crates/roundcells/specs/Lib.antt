@@ -1,0 +1,2 @@
+pub mod RoundCells
+pub mod Theorems

@@ -1,0 +1,6 @@
+-- Laws of the round call.
+pub mod Pages
+pub mod Checks
+pub mod Turns
+pub mod Loop
+pub mod Answers

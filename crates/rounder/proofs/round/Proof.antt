@@ -1,0 +1,83 @@
+-- `rounder::round`: a refusal by the checks of the plan, or the round over its cells as drawn or grown.
+use borrow.Author.Needs.{needs}
+use mathlib.Core.Path.{sym, _∙_}
+use Rattle.plan.specs.Plan.{Sound}
+use Rattle.plan.proofs.Growing.{drawn-framed, drawn-grown}
+use Rattle.sweep.proofs.Orders.{checked-plan}
+use Rattle.rounds.specs.Rounds.{request}
+use Rattle.rounder.proofs.Answers.{round-refused, by-order, parts}
+use Rattle.rounder.proofs.round.Statement.{statement}
+use Rattle.rounder.proofs.round.Tie as tie
+
+-- the plan is sound behind its checks
+sound : (c : tie.Else1) → let a = c .before .before .before .before .before .args in Sound (a .shape) (a .cells .now)
+sound c = record { typed = record { sizes = search needs; margins = search needs }; passed = sym (c .before .plan-cause .ensures) ∙ c .if1 .left }
+
+plan-cause-requires : tie.Need-plan-cause-requires
+plan-cause-requires c κs = search needs
+
+refused-round-requires : tie.Need-refused-round-requires
+refused-round-requires c κs = search needs
+
+returns : tie.Need-returns
+returns c =
+    let s : tie.Start = search needs in
+    let p : tie.After-plan-cause = search needs in
+    let t : tie.Then1 = search needs in
+    let a = s .args in
+    let q = (request (a .shape) (a .cells .now) (a .order .now) (a .m) (a .first) (a .budget) (a .tickets) (a .counters .now) (a .table .now)) in
+    parts (round-refused q _ (by-order q _ (checked-plan _ _ _ _ (p .plan-cause .ensures) (t .if1 .taken)) (t .if1 .taken)) (t .if1 .taken) _ (c .refused-round .ensures))
+
+is-drawn-requires : tie.Need-is-drawn-requires
+is-drawn-requires c κs = search needs
+
+round-over-requires : tie.Need-round-over-requires
+round-over-requires c κs =
+    let s : tie.Start = search needs in
+    let e : tie.Else1 = search needs in
+    drawn-framed (s .args .shape) (s .args .cells .now) (sound e)
+
+same-length : tie.Need-same-length
+same-length c = search needs
+
+same-length-2 : tie.Need-same-length-2
+same-length-2 c = search needs
+
+returns-2 : tie.Need-returns-2
+returns-2 c =
+    let s : tie.Start = search needs in
+    let e : tie.Else1 = search needs in
+    let d : tie.After-is-drawn = search needs in
+    let t : tie.Then2 = search needs in
+    let o : tie.After-round-over = search needs in
+    let a = s .args in
+    parts (o .round-over .ensures (a .cells .now) (sound e) (drawn-grown (a .shape) (a .cells .now) (sound e) (sym (d .is-drawn .ensures) ∙ t .if2 .taken)))
+
+round-grown-requires : tie.Need-round-grown-requires
+round-grown-requires c κs = let e : tie.Else1 = search needs in sound e
+
+same-length-3 : tie.Need-same-length-3
+same-length-3 c = search needs
+
+same-length-4 : tie.Need-same-length-4
+same-length-4 c = search needs
+
+returns-3 : tie.Need-returns-3
+returns-3 c = let o : tie.After-round-grown = search needs in parts (o .round-grown .ensures)
+
+pub round-spec : {M : Type 1} → statement M
+round-spec =
+    tie.close
+    (tie.spec
+    plan-cause-requires
+    refused-round-requires
+    returns
+    is-drawn-requires
+    round-over-requires
+    same-length
+    same-length-2
+    returns-2
+    round-grown-requires
+    same-length-3
+    same-length-4
+    returns-3)

@@ -1,0 +1,49 @@
+-- `rounder::round_grown`: the round over the grown copy.
+use borrow.Author.Needs.{needs}
+use Rattle.plan.proofs.Growing.{part-long, part-framed}
+use Rattle.rounder.proofs.round_grown.Statement.{statement}
+use Rattle.rounder.proofs.round_grown.Tie as tie
+
+slice-aggregate-grow-plan : tie.Need-slice-aggregate-grow-plan
+slice-aggregate-grow-plan c = search needs
+
+grow-plan-requires : tie.Need-grow-plan-requires
+grow-plan-requires c κs = search needs
+
+array-share-prefix-run : tie.Need-array-share-prefix-run
+array-share-prefix-run c = search needs
+
+slice-aggregate-round-over : tie.Need-slice-aggregate-round-over
+slice-aggregate-round-over c = let g : tie.After-grow-plan = search needs in part-long _ _ _ (g .grow-plan .ensures)
+
+round-over-requires : tie.Need-round-over-requires
+round-over-requires c κs =
+    let s : tie.Start = search needs in
+    let g : tie.After-grow-plan = search needs in
+    part-framed (s .args .shape) _ _ (g .grow-plan .ensures) (s .pre)
+
+same-length : tie.Need-same-length
+same-length c = search needs
+
+same-length-2 : tie.Need-same-length-2
+same-length-2 c = search needs
+
+returns : tie.Need-returns
+returns c =
+    let s : tie.Start = search needs in
+    let g : tie.After-grow-plan = search needs in
+    let o : tie.After-round-over = search needs in
+    o .round-over .ensures (s .args .cells .now) (s .pre) (g .grow-plan .ensures .is)
+
+pub round-grown-spec : {M : Type 1} → statement M
+round-grown-spec =
+    tie.close
+    (tie.spec
+    slice-aggregate-grow-plan
+    grow-plan-requires
+    array-share-prefix-run
+    slice-aggregate-round-over
+    round-over-requires
+    same-length
+    same-length-2
+    returns)

@@ -1,0 +1,94 @@
+-- `rounder::serving::serve_one`: a page call with parts of both buffers.
+use borrow.Author.Needs.{needs}
+use mathlib.Core.Path.{_≡_}
+use Prim.Native.Nat.{_+_, _-_, _*_}
+use native.Mathlib.Omega.{arith}
+use lib.ListN.{length}
+use Rattle.rounder.proofs.Pages.{one-served}
+use Rattle.rounder.proofs.serving.serve_one.Statement.{statement}
+use Rattle.rounder.proofs.serving.serve_one.Tie as tie
+
+-- there are sixteen tickets
+sixteen : (c : tie.Start) → length (c .args .t7) ≡ 16
+sixteen c = search needs
+
+mul-ticket : tie.Need-mul-ticket
+mul-ticket c = search needs
+
+array-copy-out-ticket : tie.Need-array-copy-out-ticket
+array-copy-out-ticket c = search needs
+
+add-next : tie.Need-add-next
+add-next c = search needs
+
+mul-start : tie.Need-mul-start
+mul-start c = search needs
+
+add-end : tie.Need-add-end
+add-end c = search needs
+
+mul-page-at : tie.Need-mul-page-at
+mul-page-at c = search needs
+
+sub-page-at : tie.Need-sub-page-at
+sub-page-at c = search needs
+
+part-page-at-start : tie.Need-part-page-at-start
+part-page-at-start c = search needs
+
+part-page-at-end : tie.Need-part-page-at-end
+part-page-at-end c = search needs
+
+mul-page-at-2 : tie.Need-mul-page-at-2
+mul-page-at-2 c = search needs
+
+sub-page-at-2 : tie.Need-sub-page-at-2
+sub-page-at-2 c = search needs
+
+part-page-at-start-2 : tie.Need-part-page-at-start-2
+part-page-at-start-2 c = search needs
+
+part-page-at-end-2 : tie.Need-part-page-at-end-2
+part-page-at-end-2 c = search needs
+
+page-at-requires : tie.Need-page-at-requires
+page-at-requires c κs = search needs
+
+same-length : tie.Need-same-length
+same-length c = search needs
+
+same-length-2 : tie.Need-same-length-2
+same-length-2 c = search needs
+
+returns : tie.Need-returns
+returns c =
+    let p : tie.After-page-at = search needs in
+    let s : tie.Start = search needs in
+    let a = s .args in
+    let at = a .at in
+    let start = at * a .size in
+    let x : at + 1 - at ≡ 1 = omega arith in
+    let y : start + a .size - start ≡ a .size = omega arith in
+    one-served _ (a .t7) at (a .size) (a .budget) (a .counters .now) (a .table .now) _ (at + 1 - at) (start + a .size - start) (omega (arith, sixteen s)) x y _ _ _ (p .page-at .ensures)
+
+pub serve-one-spec : {M : Type 1} → statement M
+serve-one-spec =
+    tie.close
+    (tie.spec
+    mul-ticket
+    array-copy-out-ticket
+    add-next
+    mul-start
+    add-end
+    mul-page-at
+    sub-page-at
+    part-page-at-start
+    part-page-at-end
+    mul-page-at-2
+    sub-page-at-2
+    part-page-at-start-2
+    part-page-at-end-2
+    page-at-requires
+    same-length
+    same-length-2
+    returns)

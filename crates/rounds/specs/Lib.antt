@@ -1,0 +1,3 @@
+pub mod Shares
+pub mod Rounds
+pub mod Theorems
