@@ -1,5 +1,5 @@
 -- What 02, Q-10, says of rounds.
-use mathlib.Core.Path.{_≡_, refl, sym, ap, _∙_, subst}
+use mathlib.Core.Path.{_≡_, refl, sym, ap, ap₂, _∙_, subst}
 use mathlib.Core.List.{List, [], _∷_, _++_, map, append-nil}
 use mathlib.Core.Logic.{_⊎_, inl, inr}
 use mathlib.Core.Bool.{Bool, true, false, _&&_}
@@ -27,13 +27,13 @@ use Rattle.paging.specs.Overlays.{overlay}
 use Rattle.plan.specs.Causes.{onCause}
 use Rattle.paging.specs.Calls.{freshCause, refusedPage}
 use Rattle.paging.specs.Pages.{room}
-use Rattle.paging.specs.Theorems.{Call, served, Course, begun, OneRun, run-end, run-accepted, rowsIn, allowing}
+use Rattle.paging.specs.Theorems.{Call, served, Course, begun, OneRun, run-end, run-accepted, rowsIn, handed, allowing}
 use Rattle.paging.proofs.Causes.{sound-of}
 use Rattle.paging.proofs.Theorems.{demand3}
 use Rattle.rounds.specs.declared.Round.{Round}
 use Rattle.rounds.specs.Shares.{after, clientAt, turnOf, leftBehind}
 use Rattle.rounds.specs.Rounds.{Request, ticketAt, counterAt, partSize, partAt, roundCause, probesOf, budgetAt, pageAt, countedAt, filledAt, answerAt, idlePage, roundCall, roundCounters, roundTable}
-use Rattle.rounds.specs.Theorems.{callOf, pageOf, spentBy, Turns, ClientHolds, RoundHolds, RoundRefused, serves, callsOf, RunOf, end, passed-over, in-turn, Roomy, ListHolds, RoundsHold}
+use Rattle.rounds.specs.Theorems.{callOf, pageOf, spentBy, Turns, ClientHolds, RoundHolds, RoundRefused, serves, callsOf, pagesOf, rowsGot, RunOf, end, passed-over, in-turn, Roomy, ListHolds, RoundsHold}
 use Rattle.rounds.proofs.Shares.{after-last, after-next, client-from, client-to, turn-client, client-turn, turn-below, turn-once, share-offered, left-done, all-in-turn, total-parts}
 use Rattle.rounds.proofs.Parts.{each-within, each-long, part-is, rest-is, cut-long, parts-within}
 use Rattle.rounds.proofs.Calls.{probes-few, table-long, counter-long}
@@ -259,10 +259,29 @@ module _ (s : Shape) (cells : List ℤ) (t : ℕ) where
         let p = accepted-is q e .each-passes t low l in
         rw (serving q e l) (rw (p, lt-ltb 0 (budgetAt q t) (k .0), lt-ltb 0 (room (overlay s cells) (partAt q t)) r) (ap suc (all-allow typed h b)))
 
+    -- what the rounds gave it is what its page calls answer and put out
+    pages-are-theirs : {r : Course} {qs : List Request} → Typed s → RunOf s cells t r qs → pagesOf t qs ≡ map (λ x. x .answer) (map served (callsOf t qs))
+    pages-are-theirs typed end = refl
+    pages-are-theirs typed (passed-over {q = q} n h) = rw (not-serving q n) (pages-are-theirs typed h)
+    pages-are-theirs typed (in-turn {q = q} e l shape same ticket counter h) =
+        rw (serving q e l) (ap₂ _∷_ (client-holds q (subst Typed (sym shape) typed) e t low l .page) (pages-are-theirs typed h))
+
+    rows-are-theirs : {r : Course} {qs : List Request} → Typed s → RunOf s cells t r qs → rowsGot t qs ≡ handed (s .k) (map served (callsOf t qs))
+    rows-are-theirs typed end = refl
+    rows-are-theirs typed (passed-over {q = q} n h) = rw (not-serving q n) (rows-are-theirs typed h)
+    rows-are-theirs typed (in-turn {q = q} e l shape same ticket counter h) =
+        let c = client-holds q (subst Typed (sym shape) typed) e t low l in
+        let x = served (callOf q t) in
+        let size = q .shape .k * (length (q .table) / (q .shape .k * q .clients)) in
+        let a = ap (λ (g : Page). rowsIn (q .shape .k) (g .rows) (take size (drop ((t - 1) * size) (roundTable q)))) (c .page) in
+        let b = ap (λ (y : List ℕ). rowsIn (q .shape .k) (x .answer .rows) y) (c .part) in
+        let d = ap (λ (z : Shape). rowsIn (z .k) (x .answer .rows) (x .after)) shape in
+        rw (serving q e l) (ap₂ _++_ (a ∙ (b ∙ d)) (rows-are-theirs typed h))
+
     list-holds : (order counter : List ℕ) (qs : List Request) → Typed s → freshCause s cells order counter ≡ 0 → RunOf s cells t (begun s cells order counter) qs → ListHolds s cells (begun s cells order counter) t qs
     list-holds order counter qs typed fresh h =
         let d = demand3 .paging s cells order counter (callsOf t qs) typed fresh (one-run h) in
-        record { paging = d .0; tickets = d .1; ends = λ roomy n. d .0 .bound (omega (arith, all-allow typed h roomy)) }
+        record { paging = d .0; tickets = d .1; alone = one-run h; pages = pages-are-theirs typed h; rows = rows-are-theirs typed h; ends = λ roomy n. d .0 .bound (omega (arith, all-allow typed h roomy)) }
 
 pub rounds-hold : RoundsHold
 rounds-hold = record {

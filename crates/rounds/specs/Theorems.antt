@@ -1,6 +1,6 @@
 -- Theorem: what 02, Q-10, says of a round and of every list of rounds. Proved in proofs/Theorems.antt. Sentences in quotes are 02's; its tablets are clients here.
 use mathlib.Core.Path.{_≡_}
-use mathlib.Core.List.{List, [], _∷_, map}
+use mathlib.Core.List.{List, [], _∷_, _++_, map}
 use mathlib.Core.Bool.{Bool, cond, _&&_}
 use mathlib.Core.Logic.{_↔_, _⊎_}
 use Prim.Native.Nat.{ℕ, suc, _+_, _-_, _*_, _/_, _≤_, _<_}
@@ -17,7 +17,7 @@ use Rattle.paging.specs.declared.Page.{Page}
 use Rattle.paging.specs.Cursors.{endedCursor}
 use Rattle.paging.specs.Overlays.{overlay}
 use Rattle.paging.specs.Calls.{freshCause}
-use Rattle.paging.specs.Theorems.{Call, Served, served, Course, begun, advanced, OfRun, Last, Good, Stale, rowsIn, PagingHolds, TicketsHold}
+use Rattle.paging.specs.Theorems.{Call, Served, served, Course, begun, advanced, OfRun, OneRun, Last, Good, Stale, rowsIn, handed, PagingHolds, TicketsHold}
 use Rattle.rounds.specs.Shares.{clientAt}
 use Rattle.rounds.specs.Rounds.{Request, ticketAt, counterAt, partAt, roundCause, budgetAt, roundCall, roundCounters, roundTable}
 
@@ -130,6 +130,17 @@ abbrev pub callsOf : (t : ℕ) → List Request → List Call
 callsOf t [] = []
 callsOf t (q ∷ qs) = cond (serves t q) (callOf q t ∷ callsOf t qs) (callsOf t qs)
 
+-- what client t got in a list of rounds: its pages, and the rows in its parts of their tables
+abbrev pub pagesOf : (t : ℕ) → List Request → List Page
+pagesOf t [] = []
+pagesOf t (q ∷ qs) = cond (serves t q) (pageOf q t ∷ pagesOf t qs) (pagesOf t qs)
+
+abbrev pub rowsGot : (t : ℕ) → List Request → List (List ℕ)
+rowsGot t [] = []
+rowsGot t (q ∷ qs) =
+    let size = q .shape .k * (length (q .table) / (q .shape .k * q .clients)) in
+    cond (serves t q) (rowsIn (q .shape .k) (pageOf q t .rows) (take size (drop ((t - 1) * size) (roundTable q))) ++ rowsGot t qs) (rowsGot t qs)
+
 -- the run of client t in a list of rounds: each accepted round that serves it brings the same plan, a ticket of its run, and its counter as the fresh start or
 -- the last such round left it: what a round returns to it and leaves is its page call's (`ClientHolds`). Whatever these rounds bring for others is free, and all
 -- that a refused round, or one that does not serve it, brings. r is the run so far
@@ -147,6 +158,11 @@ pub record ListHolds (s : Shape) (cells : List ℤ) (r : Course) (t : ℕ) (qs :
   -- the page calls of a client are a list of page calls as demand 3 has it, so all that it says holds of them
   pub paging : PagingHolds (overlay s cells) (map served (callsOf t qs))
   pub tickets : TicketsHold r (map served (callsOf t qs))
+  -- "Each run's rows and trials are those it would have had alone with the same budgets and part sizes": its page calls, made alone one after the other, are such a
+  -- list, and what they answer and put out is what the rounds gave it
+  pub alone : OneRun s cells r (callsOf t qs)
+  pub pages : pagesOf t qs ≡ map (λ x. x .answer) (map served (callsOf t qs))
+  pub rows : rowsGot t qs ≡ handed (s .k) (map served (callsOf t qs))
   -- "Where B ≥ m and every part takes a row, each tablet's run ends within its walk's length plus one accepted rounds that serve it, whichever way the others go."
   pub ends : All (Roomy t) qs → length (overlay s cells .walk) < length (callsOf t qs) → (x : Served) × Last (map served (callsOf t qs)) x × (x .answer .stop ≡ Ended)
 
