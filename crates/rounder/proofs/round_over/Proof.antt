@@ -29,7 +29,7 @@ returns c cells h is =
     round-refused q 5 (by-order q 5 (misordered (a .shape) (a .order .now) (a .grown .now) (o .is-order .ensures) (not-true _ (t .if1 .taken)) cells h is) (λ e. omega arith)) (λ e. omega arith) _ (c .refused-round .ensures)
 
 frame-of-requires : tie.Need-frame-of-requires
-frame-of-requires c κs = search needs
+frame-of-requires c κs = let s : tie.Start = search needs in (omega (arith, typed s .sizes, s .pre .0), s .pre .1 .small)
 
 round-on-requires : tie.Need-round-on-requires
 round-on-requires c κs =

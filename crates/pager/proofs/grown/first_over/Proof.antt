@@ -27,7 +27,7 @@ returns c cells h is =
     c .refused-first .ensures ∙ first-refused (a .shape) cells (a .order .now) 5 (misordered (a .shape) (a .order .now) (a .grown .now) (o .is-order .ensures) (not-true _ (t .if1 .taken)) cells h is) (λ e. omega arith)
 
 frame-of-requires : tie.Need-frame-of-requires
-frame-of-requires c κs = search needs
+frame-of-requires c κs = let s : tie.Start = search needs in (omega (arith, typed s .sizes, s .pre .0), s .pre .1 .small)
 
 first-cursor-requires : tie.Need-first-cursor-requires
 first-cursor-requires c κs =

@@ -27,7 +27,7 @@ returns c cells h is =
     (c .refused-page .ensures)
 
 frame-of-requires : tie.Need-frame-of-requires
-frame-of-requires c κs = search needs
+frame-of-requires c κs = let s : tie.Start = search needs in (omega (arith, typed s .sizes, s .pre .0), s .pre .1 .small)
 
 page-at-requires : tie.Need-page-at-requires
 page-at-requires c κs =

@@ -23,7 +23,7 @@ returns c cells h is =
     run-refused (a .shape) cells (a .order .now) (a .table .now) (a .work .now) 5 (misordered (a .shape) (a .order .now) (a .grown .now) (o .is-order .ensures) (not-true _ (c .if1 .taken)) cells h is) (λ e. omega arith)
 
 frame-of-requires : tie.Need-frame-of-requires
-frame-of-requires c κs = search needs
+frame-of-requires c κs = let s : tie.Start = search needs in (omega (arith, typed s .sizes, s .pre .0), s .pre .1 .small)
 
 run-from-requires : tie.Need-run-from-requires
 run-from-requires c κs =
