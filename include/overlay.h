@@ -10,6 +10,10 @@
  * A run is a fresh ticket and the pages from it on. Each ticket counts the probes that its run has done, and the run's record, a counter of one cell
  * that the caller keeps beside the plan, holds the count of the newest. So a page call tells an earlier ticket from the newest, and refuses it by 18.
  *
+ * A timed call takes a window of the week for each rectangle: two cells in the order of the plan's cells, the first minute that is in it and the first
+ * after it, 0 to 10,080. It goes over the rows whose windows share a minute, and over the walk in which a probe passes only where the windows so far share
+ * one. The pages of a run are all timed, with the same windows, or all not; the fresh ticket of both is the same.
+ *
  * A whole run takes a work buffer. It does not matter what its cells hold before, and what they hold after an acceptance is free.
  *
  * No pointer is null, also where its length is 0. A buffer that a call writes to overlaps no other that it is handed.
@@ -23,15 +27,16 @@
 #include <stdint.h>
 
 /* The version of this interface: another one where a declaration, a number or the order of cells is another, or one comes. */
-#define OVERLAY_VERSION 10
+#define OVERLAY_VERSION 11
 
-/* The largest plan: layers, rectangles, cells, a layer's margin in millimetres, and the bytes of the longest text, which is proved. So much is enough
- * for every plan. */
+/* The largest plan: layers, rectangles, cells, a layer's margin in millimetres, the cells of its windows, and the bytes of the longest text, which is
+ * proved. So much is enough for every plan. */
 enum {
     OVERLAY_MOST_LAYERS = 6,
     OVERLAY_MOST_RECTS = 3072,
     OVERLAY_MOST_CELLS = 12288,
     OVERLAY_MOST_MARGIN = 50000,
+    OVERLAY_MOST_HOURS = 6144,
     OVERLAY_MOST_TEXT = 126055
 };
 
@@ -46,8 +51,8 @@ enum overlay_cause {
     OVERLAY_CAUSE_CELLS = 3,        /* the cells are not four for each rectangle */
     OVERLAY_CAUSE_RECT = 4,         /* a coordinate is out of range, left > right or bottom > top */
     OVERLAY_CAUSE_ORDER = 5,        /* the order is not the sweep order of the plan */
-    OVERLAY_CAUSE_TICKET = 6,       /* the ticket is none of this plan, whatever it counts */
-    OVERLAY_CAUSE_ROWS = 7,         /* there are more rows than the table takes */
+    OVERLAY_CAUSE_TICKET = 6,       /* the ticket is none of this plan, whatever it counts; of the timed walk in a timed call */
+    OVERLAY_CAUSE_ROWS = 7,         /* there are more rows than the table takes; timed ones in a timed call */
     OVERLAY_CAUSE_ORDER_LENGTH = 8, /* the order buffer has not one cell for each rectangle */
     OVERLAY_CAUSE_FORM = 9,         /* the text is not well formed */
     OVERLAY_CAUSE_COUNT = 10,       /* the text is well formed, but miscounted, or 1, 2, 17 or 4 would apply */
@@ -63,7 +68,8 @@ enum overlay_cause {
     OVERLAY_CAUSE_RECORD = 20,      /* the corners are not four a record, or one is not finite, out of order or beyond a million when covered */
     OVERLAY_CAUSE_STRIP = 21,       /* a strip's stop is not finite, its lower one is above its upper one, or its kind is above 3 */
     OVERLAY_CAUSE_ROUND = 22,       /* a round has not 1 to 16 clients, its first is none of them, its budget is above 2^32 - 1, or there is not a record for each */
-    OVERLAY_CAUSE_PLACES = 23       /* there are not k places, or a place is not in its layer */
+    OVERLAY_CAUSE_PLACES = 23,      /* there are not k places, or a place is not in its layer */
+    OVERLAY_CAUSE_HOURS = 24        /* the windows are not two cells for each rectangle, or one has not from < to <= 10,080 */
 };
 
 /* The cells of a ticket. The ended ticket is 1, nine times 0 and its count. */
@@ -138,6 +144,12 @@ enum {
 /* The cells of a pair's answer: the lower layer and the higher, from 1. */
 enum { OVERLAY_PAIR_LOWER = 0, OVERLAY_PAIR_HIGHER = 1, OVERLAY_PAIR_CELLS = 2 };
 
+/* The cells of a row's shared minutes: the first one, and the first after them. */
+enum { OVERLAY_HOURS_FROM = 0, OVERLAY_HOURS_TO = 1, OVERLAY_HOURS_CELLS = 2 };
+
+/* The minutes of a week, where the last window ends. */
+enum { OVERLAY_WEEK = 10080 };
+
 /* The cells of what lies nearest: three for each of six layers, the first layer first. Where a layer is empty or past k, all three are 0. */
 enum {
     OVERLAY_NEAR_FOUND = 0, /* whether the layer has a rectangle: 0 or 1 */
@@ -199,6 +211,12 @@ uint32_t overlay_nearest(uint32_t k, const uint32_t sizes[6], const uint32_t mar
 uint32_t overlay_apart_pair(uint32_t k, const uint32_t sizes[6], const uint32_t margins[6], const int32_t *cells,
                             size_t cells_length, const uint32_t *places, size_t places_length, uint64_t answer[2]);
 
+/* The minutes that the windows of the row which places name share: the first one and the first after them, both 0 where the places are no row or its windows
+ * share none, which is no refusal. Tells 1, 2, 17, 3, 4 and 24. */
+uint32_t overlay_row_hours(uint32_t k, const uint32_t sizes[6], const uint32_t margins[6], const int32_t *cells,
+                           size_t cells_length, const uint32_t *hours, size_t hours_length, const uint32_t *places,
+                           size_t places_length, uint32_t answer[2]);
+
 /* The ticket of the first probe; the ended ticket where there is none, and after a refusal. A run begins: its record, one cell, is left with 0.
  * Tells 1, 2, 17, 3, 4, 5 and 18. */
 uint32_t overlay_fresh_ticket(uint32_t k, const uint32_t sizes[6], const uint32_t margins[6], const int32_t *cells,
@@ -211,6 +229,13 @@ uint32_t overlay_fetch_page(uint32_t k, const uint32_t sizes[6], const uint32_t 
                             size_t cells_length, const uint32_t *order, size_t order_length, uint32_t ticket[12],
                             uint64_t *counter, size_t counter_length, uint32_t budget, uint32_t *table,
                             size_t table_length, uint64_t answer[4]);
+
+/* A page of the timed walk, as overlay_fetch_page, of the rows whose windows share a minute. Tells 1, 2, 17, 3, 4, 24, 5, 6 and 18; 6 where the ticket is no
+ * probe of the timed walk, also where it is one without windows. */
+uint32_t overlay_timed_page(uint32_t k, const uint32_t sizes[6], const uint32_t margins[6], const int32_t *cells,
+                            size_t cells_length, const uint32_t *hours, size_t hours_length, const uint32_t *order,
+                            size_t order_length, uint32_t ticket[12], uint64_t *counter, size_t counter_length,
+                            uint32_t budget, uint32_t *table, size_t table_length, uint64_t answer[4]);
 
 /* A round: m clients, 1 to 16, page through one plan out of one budget, which may be up to 2^32 - 1. They are served in turn, 1 after m, from `first` on. Each
  * makes one page call, as overlay_fetch_page, with its own ticket, its own cell of the counters, the probes left divided by the clients still to serve,
@@ -228,6 +253,13 @@ uint32_t overlay_round(uint32_t k, const uint32_t sizes[6], const uint32_t margi
 uint32_t overlay_run_all(uint32_t k, const uint32_t sizes[6], const uint32_t margins[6], const int32_t *cells,
                          size_t cells_length, const uint32_t *order, size_t order_length, uint32_t *table,
                          size_t table_length, int32_t *work, size_t work_length, uint64_t answer[4]);
+
+/* All rows of a plan's table whose windows share a minute, as overlay_run_all: rows, probes, area and ground are those of the timed walk and its rows, and the
+ * table and the work buffer need room for these alone. Tells 1, 2, 17, 3, 4, 24, 5, 7 and 19. */
+uint32_t overlay_timed_run(uint32_t k, const uint32_t sizes[6], const uint32_t margins[6], const int32_t *cells,
+                           size_t cells_length, const uint32_t *hours, size_t hours_length, const uint32_t *order,
+                           size_t order_length, uint32_t *table, size_t table_length, int32_t *work,
+                           size_t work_length, uint64_t answer[4]);
 
 /* Leaves in `told` the class of the row that places name, for a plan whose layer k - 1 holds horizontal segments and whose layer k holds vertical ones; 0 after a refusal.
  * Tells 1, 2, 17, 3, 4, 15 and 16. */

@@ -11,6 +11,7 @@
 static uint32_t k = OVERLAY_MOST_LAYERS, sizes[6] = {512, 512, 512, 512, 512, 512};
 static uint32_t margins[6] = {400, 300, 200, 100, 0, 0};
 static int32_t cells[OVERLAY_MOST_CELLS];
+static uint32_t hours[OVERLAY_MOST_HOURS];
 static uint32_t order[OVERLAY_MOST_RECTS], table[OVERLAY_MOST_RECTS], ticket[OVERLAY_TICKET_CELLS];
 static int32_t work[OVERLAY_MOST_RECTS];
 static uint64_t record;
@@ -49,6 +50,13 @@ static uint32_t apart_pair(void)
     uint64_t answer[OVERLAY_PAIR_CELLS];
     return overlay_apart_pair(k, sizes, margins, cells, OVERLAY_MOST_CELLS, table, k, answer);
 }
+static uint32_t row_hours(void)
+{
+    uint32_t answer[OVERLAY_HOURS_CELLS];
+    return overlay_row_hours(k, sizes, margins, cells, OVERLAY_MOST_CELLS, hours, OVERLAY_MOST_HOURS, table, k,
+                             answer) ||
+           answer[OVERLAY_HOURS_TO] == 0;
+}
 static uint32_t fresh_ticket(void)
 {
     return overlay_fresh_ticket(k, sizes, margins, cells, OVERLAY_MOST_CELLS, order, OVERLAY_MOST_RECTS, ticket,
@@ -61,6 +69,18 @@ static uint32_t fetch_page(void)
     do
         cause = overlay_fetch_page(k, sizes, margins, cells, OVERLAY_MOST_CELLS, order, OVERLAY_MOST_RECTS, ticket,
                                    &record, 1, 10000, table, OVERLAY_MOST_RECTS, answer);
+    while (cause == 0 && answer[OVERLAY_PAGE_STOP] != OVERLAY_ENDED);
+    return cause;
+}
+static uint32_t timed_page(void)
+{
+    static uint32_t own[OVERLAY_TICKET_CELLS];
+    uint64_t answer[OVERLAY_PAGE_CELLS], own_record = record;
+    uint32_t cause;
+    memcpy(own, ticket, sizeof ticket);
+    do
+        cause = overlay_timed_page(k, sizes, margins, cells, OVERLAY_MOST_CELLS, hours, OVERLAY_MOST_HOURS, order,
+                                   OVERLAY_MOST_RECTS, own, &own_record, 1, 10000, table, OVERLAY_MOST_RECTS, answer);
     while (cause == 0 && answer[OVERLAY_PAGE_STOP] != OVERLAY_ENDED);
     return cause;
 }
@@ -84,6 +104,13 @@ static uint32_t run_all(void)
     uint64_t answer[OVERLAY_RUN_CELLS];
     return overlay_run_all(k, sizes, margins, cells, OVERLAY_MOST_CELLS, order, OVERLAY_MOST_RECTS, table,
                            OVERLAY_MOST_RECTS, work, OVERLAY_MOST_RECTS, answer);
+}
+static uint32_t timed_run(void)
+{
+    uint64_t answer[OVERLAY_RUN_CELLS];
+    return overlay_timed_run(k, sizes, margins, cells, OVERLAY_MOST_CELLS, hours, OVERLAY_MOST_HOURS, order,
+                             OVERLAY_MOST_RECTS, table, OVERLAY_MOST_RECTS, work, OVERLAY_MOST_RECTS, answer) ||
+           answer[OVERLAY_RUN_ROWS] != 512;
 }
 static uint32_t row_class(void)
 {
@@ -124,8 +151,9 @@ static const struct {
     uint32_t (*call)(void);
 } calls[] = {{"plan_cause", plan_cause}, {"make_order", make_order},           {"order_cause", order_cause},
              {"row", row},               {"row_common", row_common},           {"nearest", nearest},
-             {"apart_pair", apart_pair}, {"row_class", row_class},             {"fresh_ticket", fresh_ticket},
-             {"round", serve_round},     {"fetch_page", fetch_page},           {"run_all", run_all},
+             {"apart_pair", apart_pair}, {"row_hours", row_hours},             {"row_class", row_class},
+             {"fresh_ticket", fresh_ticket}, {"round", serve_round},           {"timed_page", timed_page},
+             {"fetch_page", fetch_page}, {"run_all", run_all},                 {"timed_run", timed_run},
              {"crossing_report", crossing_report}, {"write_text", write_text}, {"read_text", read_text},
              {"cover_records", cover_records}};
 enum { CALLS = sizeof calls / sizeof *calls };
@@ -171,6 +199,9 @@ int main(void)
      * them. */
     for (int i = 0; i < OVERLAY_MOST_CELLS; i++)
         cells[i] = 1000000 - 1000 * (i / 4 % 512);
+    /* Windows that share the middle of the week. */
+    for (uint32_t i = 0; i < OVERLAY_MOST_HOURS; i++)
+        hours[i] = i % 2 ? OVERLAY_WEEK - i / 2 : i / 2;
     measure_all();
 
     /* The longest text. PLAN takes 7 bytes, each of 6 LAYER lines 16, each of 3,072 RECT lines 41: a word of four bytes, four times a tab and

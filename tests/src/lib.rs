@@ -3,13 +3,14 @@
 //! An overlay under test implements `overlay::Overlay` and is handed to `compare::compare` beside
 //! `reference::REFERENCE`; its report is handed to `reports::compare_reports` beside
 //! `reference::report`, its call on survey records to `surveys::compare_surveys` beside
-//! `surveys::cover_records`, and its rounds to `rounds::compare_rounds` beside `rounds::round`. All
-//! give their counts, or the first difference with the whole case. `laws::try_laws` takes the overlay
-//! under test alone.
+//! `surveys::cover_records`, its rounds to `rounds::compare_rounds` beside `rounds::round`, and its timed
+//! calls to `hours::compare_hours` beside `hours::ByWords(None)`. All give their counts, or the first
+//! difference with the whole case. `laws::try_laws` takes the overlay under test alone.
 
 pub mod call;
 pub mod compare;
 pub mod crossings;
+pub mod hours;
 pub mod known;
 pub mod laws;
 pub mod nearest;

@@ -2,6 +2,7 @@
 
 use overlay_tests::compare::{compare, Tally};
 use overlay_tests::crossings::{compare_crossings, ByWords, SLIPS as CROSSING_SLIPS};
+use overlay_tests::hours::{compare_hours, ByWords as HoursByWords, SLIPS as HOURS_SLIPS};
 use overlay_tests::laws::{try_laws, LAWLESS, LAWS, WRONG_LAWS};
 use overlay_tests::nearest::{compare_nearest, nearest, WRONG_NEAREST};
 use overlay_tests::reference::{report, REFERENCE};
@@ -81,6 +82,16 @@ fn catch_wrong_rounds() {
     }
 }
 
+/// Every wrong timed call must differ from the right one somewhere.
+fn catch_wrong_hours() {
+    for (slip, name) in HOURS_SLIPS {
+        match compare_hours(&HoursByWords(Some(slip)), &HoursByWords(None)) {
+            Err(found) => println!("wrong hours caught after {} cases: {name}", found.cases),
+            Ok(_) => stop(&format!("wrong hours not caught: {name}")),
+        }
+    }
+}
+
 /// Every wrong statement must be shown wrong by the reference, and every lawless overlay by the laws.
 fn catch_wrong_laws() {
     for (wrong, name) in WRONG_LAWS {
@@ -107,6 +118,8 @@ fn compare_with_itself() -> Tally {
     let crossings = compare_crossings(&ByWords(None), &ByWords(None));
     tally.add("crossings", crossings.unwrap_or_else(|found| stop(&found.text)));
     tally.add("rounds", compare_rounds(&round, &round).unwrap_or_else(|found| stop(&found.text)));
+    let hours = compare_hours(&HoursByWords(None), &HoursByWords(None));
+    tally.add("hours", hours.unwrap_or_else(|found| stop(&found.text)));
     tally.add("laws", try_laws(&REFERENCE, &LAWS).unwrap_or_else(|found| stop(&found.text)));
     tally
 }
@@ -119,6 +132,7 @@ fn main() {
     catch_wrong_surveys();
     catch_wrong_crossings();
     catch_wrong_rounds();
+    catch_wrong_hours();
     catch_wrong_laws();
     print!("{}", compare_with_itself());
 }

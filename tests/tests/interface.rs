@@ -132,7 +132,7 @@ fn agree(header: &str, library: &str, wrapper: &str) -> bool {
 #[test]
 fn header_library_and_wrapper_agree() {
     let functions = in_header(HEADER);
-    assert_eq!(functions.len(), 16);
+    assert_eq!(functions.len(), 19);
     assert_eq!(functions, in_library(LIBRARY));
     assert_eq!(plain(&functions), in_wrapper(WRAPPER));
 }
@@ -175,6 +175,10 @@ fn every_change_is_noticed() {
         ("const double *corners", "const uint64_t *corners"),
         ("const double stops[4]", "const double stops[2]"),
         ("uint32_t *k, uint32_t sizes[6]", "uint32_t sizes[6], uint32_t *k"),
+        ("const uint32_t *hours, size_t hours_length, ", ""),
+        ("const uint32_t *hours", "uint32_t *hours"),
+        ("const uint32_t *hours", "const uint64_t *hours"),
+        ("uint32_t answer[2]", "uint32_t answer[3]"),
     ];
     let library = [
         ("fn overlay_row(", "fn overlay_rows("),
@@ -194,6 +198,8 @@ fn every_change_is_noticed() {
         ("    work: &mut [i32],\n", ""),
         ("k: &mut u32", "k: u32"),
         ("corners: &[f64]", "corners: &[u64]"),
+        ("    hours: &[u32],\n", ""),
+        ("hours: &[u32]", "hours: &mut [u32]"),
         ("#[no_mangle]\npub extern \"C\" fn overlay_row(", "fn overlay_row("),
     ];
     let wrapper = [
@@ -211,6 +217,8 @@ fn every_change_is_noticed() {
         ("budget: u32", "budget: u64"),
         ("size: *mut usize", "size: *mut u32"),
         ("stops: *const f64", "stops: *const u64"),
+        ("        hours_length: usize,\n", ""),
+        ("hours: *const u32", "hours: *mut u32"),
         (") -> u32;", ") -> u64;"),
     ];
     for (old, new) in header {

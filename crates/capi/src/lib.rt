@@ -4,6 +4,8 @@ use cells::common_cells;
 use cells::common_number;
 use cells::covering_kept;
 use cells::covering_number;
+use cells::hours_cells;
+use cells::hours_number;
 use cells::order_number;
 use cells::page_cells;
 use cells::pair_cells;
@@ -27,6 +29,8 @@ use nearest::nearest;
 use pager::fetch_page;
 use pager::fresh_ticket;
 use pager::run_all;
+use pager::timed_page;
+use pager::timed_run;
 use pairs::apart_pair;
 use plan::Shape;
 use plan::plan_cause;
@@ -43,6 +47,7 @@ use sweep::order_cause;
 use tally::crossing_report;
 use text::read;
 use text::write;
+use windows::row_hours;
 ghost use mathlib.Core.Path.{_≡_};
 ghost use lib.ListN.{length};
 ghost use Rattle.plan.specs.Plan.{rectAt, planCause};
@@ -51,13 +56,14 @@ ghost use Rattle.sweep.specs.Sweep.{orderCause, makeCause, orderAfter};
 ghost use Rattle.rows.specs.RowCall.{rowCall, rowValues, commonCall, commonValues};
 ghost use Rattle.pairs.specs.PairCall.{pairCall, pairValues};
 ghost use Rattle.crossings.specs.ClassCall.{classCall, classValues};
-ghost use Rattle.paging.specs.Calls.{freshCall, freshCounter, pageCause, pageCall, pageTable, pageCounter, runCause, runCall, runTable, WorkAfter, runValues, crossingRunCause, crossingCall, crossingTable};
+ghost use Rattle.windows.specs.HoursCall.{hoursCall, hoursValues};
+ghost use Rattle.paging.specs.Calls.{freshCall, freshCounter, pageCause, pageCall, pageTable, pageCounter, runCause, runCall, runTable, timedPageCause, timedPageCall, timedPageTable, timedPageCounter, timedRunCause, timedRunCall, timedRunTable, WorkAfter, runValues, crossingRunCause, crossingCall, crossingTable};
 ghost use Rattle.rounds.specs.Rounds.{request, roundCause, roundCall, roundCounters, roundTable};
 ghost use Rattle.roundcells.specs.RoundCells.{ticketsIn, roundCells, ticketsAfter};
 ghost use Rattle.survey.specs.CoverCall.{coverCause, coverAnswer, coverValues, coverAfter};
 ghost use Rattle.text.specs.Reader.{readCause, readAnswer, cellsAfter};
 ghost use Rattle.text.specs.Writer.{writeCause, writeLength, bufferAfter};
-ghost use Rattle.cells.specs.Cells.{shapeOf, ticketCells, ticketIn, pageCells, ticketAfter, runCells, rowCells, commonCells, acrossIn, upwardIn, pairCells};
+ghost use Rattle.cells.specs.Cells.{shapeOf, ticketCells, ticketIn, pageCells, ticketAfter, runCells, rowCells, commonCells, acrossIn, upwardIn, pairCells, hoursCells};
 
 // The first of the causes 1 to 4 and 17 that applies to a plan.
 #[no_mangle]
@@ -244,6 +250,37 @@ pub extern "C" fn overlay_apart_pair(
     pair_number(told)
 }
 
+// The minutes that the windows of the row share which the lent places name in the table of a plan. The answer's cells: the first of them, and the first
+// after them; both 0 where there are none.
+#[no_mangle]
+pub extern "C" fn overlay_row_hours(
+    k: u32,
+    sizes: &[u32; 6],
+    margins: &[u32; 6],
+    cells: &[i32],
+    hours: &[u32],
+    places: &[u32],
+    answer: &mut [u32; 2],
+) -> u32
+    ensures number { λ r. ⌜ r ≡ hoursValues (hoursCall (shapeOf k (now (sizes .entry)) (now (margins .entry))) (now (cells .entry)) (now (hours .entry)) (now (places .entry))) .number ⌝ }
+    ensures answer { λ _. ⌜ now (answer .exit) ≡ hoursCells (hoursValues (hoursCall (shapeOf k (now (sizes .entry)) (now (margins .entry))) (now (cells .entry)) (now (hours .entry)) (now (places .entry)))) ⌝ }
+{
+    let six = *sizes;
+    let wide = *margins;
+    let told = row_hours(
+        Shape {
+            k,
+            sizes: six,
+            margins: wide,
+        },
+        cells,
+        hours,
+        places,
+    );
+    *answer = hours_cells(told);
+    hours_number(told)
+}
+
 // The ticket of the first probe of a plan's walk. A run begins: its counter, the run record, is left with 0.
 #[no_mangle]
 pub extern "C" fn overlay_fresh_ticket(
@@ -307,6 +344,51 @@ pub extern "C" fn overlay_fetch_page(
             margins: wide,
         },
         cells,
+        order,
+        from,
+        counter,
+        budget,
+        table,
+    );
+    *answer = page_cells(page);
+    *ticket = ticket_after(ticket, page);
+    let stop = page.stop;
+    stop_number(stop)
+}
+
+// A page of the timed walk from a ticket on, with a window of the week for each rectangle, two cells, in `hours`; the ticket's cells are left with what is due next, and the counter, the run record, with its count. The answer's cells:
+// why it stopped, rows, probes, area.
+#[no_mangle]
+pub extern "C" fn overlay_timed_page(
+    k: u32,
+    sizes: &[u32; 6],
+    margins: &[u32; 6],
+    cells: &[i32],
+    hours: &[u32],
+    order: &[u32],
+    ticket: &mut [u32; 12],
+    counter: &mut [u64],
+    budget: u32,
+    table: &mut [u32],
+    answer: &mut [u64; 4],
+) -> u32
+    ensures number { λ r. ⌜ r ≡ timedPageCause (shapeOf k (now (sizes .entry)) (now (margins .entry))) (now (cells .entry)) (now (hours .entry)) (now (order .entry)) (ticketIn (now (ticket .entry))) (now (counter .entry)) ⌝ }
+    ensures answer { λ _. ⌜ now (answer .exit) ≡ pageCells (timedPageCall (shapeOf k (now (sizes .entry)) (now (margins .entry))) (now (cells .entry)) (now (hours .entry)) (now (order .entry)) (ticketIn (now (ticket .entry))) (now (counter .entry)) budget (now (table .entry))) ⌝ }
+    ensures ticket { λ _. ⌜ now (ticket .exit) ≡ ticketAfter (now (ticket .entry)) (timedPageCall (shapeOf k (now (sizes .entry)) (now (margins .entry))) (now (cells .entry)) (now (hours .entry)) (now (order .entry)) (ticketIn (now (ticket .entry))) (now (counter .entry)) budget (now (table .entry))) ⌝ }
+    ensures counter { λ _. ⌜ now (counter .exit) ≡ timedPageCounter (shapeOf k (now (sizes .entry)) (now (margins .entry))) (now (cells .entry)) (now (hours .entry)) (now (order .entry)) (ticketIn (now (ticket .entry))) (now (counter .entry)) budget (now (table .entry)) ⌝ }
+    ensures table { λ _. ⌜ now (table .exit) ≡ timedPageTable (shapeOf k (now (sizes .entry)) (now (margins .entry))) (now (cells .entry)) (now (hours .entry)) (now (order .entry)) (ticketIn (now (ticket .entry))) (now (counter .entry)) budget (now (table .entry)) ⌝ }
+{
+    let six = *sizes;
+    let wide = *margins;
+    let from = ticket_in(ticket);
+    let page = timed_page(
+        Shape {
+            k,
+            sizes: six,
+            margins: wide,
+        },
+        cells,
+        hours,
         order,
         from,
         counter,
@@ -395,6 +477,42 @@ pub extern "C" fn overlay_run_all(
             margins: wide,
         },
         cells,
+        order,
+        table,
+        work,
+    );
+    *answer = run_cells(run);
+    run_number(run)
+}
+
+// All rows of a plan's timed table, with a window of the week for each rectangle, two cells, in `hours`; else as the whole run.
+#[no_mangle]
+pub extern "C" fn overlay_timed_run(
+    k: u32,
+    sizes: &[u32; 6],
+    margins: &[u32; 6],
+    cells: &[i32],
+    hours: &[u32],
+    order: &[u32],
+    table: &mut [u32],
+    work: &mut [i32],
+    answer: &mut [u64; 4],
+) -> u32
+    ensures number { λ r. ⌜ r ≡ runValues (timedRunCall (shapeOf k (now (sizes .entry)) (now (margins .entry))) (now (cells .entry)) (now (hours .entry)) (now (order .entry)) (now (table .entry)) (length (now (work .entry)))) .number ⌝ }
+    ensures answer { λ _. ⌜ now (answer .exit) ≡ runCells (runValues (timedRunCall (shapeOf k (now (sizes .entry)) (now (margins .entry))) (now (cells .entry)) (now (hours .entry)) (now (order .entry)) (now (table .entry)) (length (now (work .entry))))) ⌝ }
+    ensures table { λ _. ⌜ now (table .exit) ≡ timedRunTable (shapeOf k (now (sizes .entry)) (now (margins .entry))) (now (cells .entry)) (now (hours .entry)) (now (order .entry)) (now (table .entry)) (length (now (work .entry))) ⌝ }
+    ensures work { λ _. ⌜ WorkAfter (timedRunCause (shapeOf k (now (sizes .entry)) (now (margins .entry))) (now (cells .entry)) (now (hours .entry)) (now (order .entry)) (now (table .entry)) (length (now (work .entry)))) (now (work .entry)) (now (work .exit)) ⌝ }
+{
+    let six = *sizes;
+    let wide = *margins;
+    let run = timed_run(
+        Shape {
+            k,
+            sizes: six,
+            margins: wide,
+        },
+        cells,
+        hours,
         order,
         table,
         work,

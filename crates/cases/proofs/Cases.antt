@@ -20,7 +20,7 @@ use Rattle.join.specs.Table.{same-spot, belongs, tableOf}
 use Rattle.rows.specs.RowCall.{isRow, rowCall, commonCall}
 use Rattle.walk.specs.Walk.{walkOf}
 use Rattle.paging.specs.Cursors.{sameCursor, resume}
-use Rattle.paging.specs.Calls.{current, freshCause, freshCall, freshCounter, cursorCause, pageCause, pageCall, pageTable, pageCounter, runCause, runCall}
+use Rattle.paging.specs.Calls.{current, freshCause, freshCall, freshCounter, pageCause, pageCall, pageTable, pageCounter, runCause, runCall}
 use Rattle.decimal.specs.Numerals.{size, decimal}
 use Rattle.decimal.specs.Bytes.{kindOf}
 use Rattle.decimal.specs.Reading.{number}
@@ -109,7 +109,7 @@ _also_ : {c : Case} {cs : List Case} → Holds c → All Holds cs → All Holds 
 _also_ h hs = _and_ h hs
 
 pub ground-holds : GroundHolds
-unfolding totalOf valueOf maxZ minZ common nonempty meets Rectangles.kindOf between held areaOf rectAt grownBy grown fitsAt planCause before sweepOrder orderCause areaIn kindIn sameZ same-spot belongs tableOf isRow rowCall commonCall walkOf same sameCursor resume current freshCause freshCall freshCounter cursorCause pageCause pageCall pageTable pageCounter readCause textShape textCells linesOf line number kindOf shapeIn agrees size decimal Lines.lineOf rowFields squareMetres runCause runCall emptyTable reportCause reportOf
+unfolding totalOf valueOf maxZ minZ common nonempty meets Rectangles.kindOf between held areaOf rectAt grownBy grown fitsAt planCause before sweepOrder orderCause areaIn kindIn sameZ same-spot belongs tableOf isRow rowCall commonCall walkOf same sameCursor resume current freshCause freshCall freshCounter pageCause pageCall pageTable pageCounter readCause textShape textCells linesOf line number kindOf shapeIn agrees size decimal Lines.lineOf rowFields squareMetres runCause runCall emptyTable reportCause reportOf
 ground-holds =
     (refl, refl, refl)
     also (refl, refl, refl, refl, refl, refl, refl, (refl, refl, refl, refl, refl, refl, refl, tt))

@@ -1,7 +1,7 @@
 -- Tickets go into cells and back, so lists of exported calls are lists of calls; cells that are no cursor are refused.
 use mathlib.Core.Path.{_≡_, refl, sym, ap, _∙_, subst}
 use mathlib.Core.List.{List, [], _∷_, map, Memᴰ·map}
-use mathlib.Core.Option.{none}
+use mathlib.Core.Option.{Option, none}
 use mathlib.Core.Bool.{Bool, true, false}
 use mathlib.Core.Logic.{_↔_}
 use Prim.Native.Nat.{ℕ, zero, suc, _+_, _*_, _/_, _%_, _<_}
@@ -10,11 +10,9 @@ use lib.IntN.{ℤ}
 use lib.ListN.{length, getD}
 use lib.Ieee.{Float, le}
 use Rattle.lists.proofs.Padding.{padded-long}
-use Rattle.geometry.specs.declared.Rect.{Rect}
 use Rattle.plan.specs.declared.Shape.{Shape}
 use Rattle.plan.specs.Causes.{onCause}
 use Rattle.plan.specs.Plan.{sizesOf, Typed}
-use Rattle.sweep.specs.Sweep.{orderCause}
 use Rattle.search.specs.declared.Stop.{Stop}
 use Rattle.search.specs.declared.Stop.the-variants.{Ended, Full, Spent, Refused}
 use Rattle.search.specs.Traversal.{Probe}
@@ -23,11 +21,12 @@ use Rattle.paging.specs.declared.Fresh.{Fresh}
 use Rattle.paging.specs.declared.Page.{Page}
 use Rattle.paging.specs.declared.Ticket.{Ticket}
 use Rattle.paging.specs.Cursors.{dueCursor, endedCursor, sameCursor, findIn, resume}
-use Rattle.paging.specs.Calls.{freshCause, freshCall, freshCounter, stopNumber, refusedPage, cursorCause, pageCause, pageCall}
-use Rattle.paging.specs.Overlays.{overlay}
+use Rattle.paging.specs.Calls.{freshCause, freshCall, freshCounter, stopNumber, refusedPage, pageCallOn}
+use Rattle.paging.specs.Overlays.{Overlay, overlay, overlayOf}
 use Rattle.paging.specs.Pages.{paged, pageOf}
-use Rattle.paging.specs.Theorems.{Call, served, Course, begun, advanced, OneRun, run-end, run-refused, run-accepted, PagingHolds, TicketsHold}
+use Rattle.paging.specs.Theorems.{Call, served, Course, begun, advanced, OneRun, run-end, run-refused, run-accepted, firstCause, PagingHolds, TicketsHold}
 use Rattle.paging.proofs.Causes.{stop-none}
+use Rattle.paging.proofs.Serving.{servedOn, firstOf, of-served}
 use Rattle.paging.proofs.Theorems.{demand3}
 use Rattle.survey.specs.Theorems.{SoundStops}
 use Rattle.survey.proofs.Theorems.{surveys}
@@ -61,7 +60,7 @@ ticket-back t h =
     λ i. record { cursor = c i; count = n i }
 
 -- the cursor of what is due has five chosen places
-due-five : (ns : List ℕ) (w : List (Probe Rect)) → length (dueCursor ns w .chosen) ≡ 5
+due-five : {S : Type 0} (ns : List ℕ) (w : List (Probe S)) → length (dueCursor ns w .chosen) ≡ 5
 due-five ns [] = refl
 due-five ns (t ∷ w) = padded-long 5 (t .chosen)
 
@@ -77,45 +76,47 @@ chosen-next : (given : List ℕ) (n : ℕ) (p : Page) → stopNumber (p .stop) �
 chosen-next given zero p e b = ap (λ (m : ℕ). ticketIn (onCause m (ticketCells (p .ticket)) (λ i. given))) e ∙ b
 chosen-next given (suc n) p e b = refl
 
-next-in : (s : Shape) (cells : List ℤ) (order given counter : List ℕ) (budget : ℕ) (table : List ℕ) → let p = pageCall s cells order (ticketIn given) counter budget table in ticketIn (ticketAfter given p) ≡ p .ticket
-unfolding pageCall
-next-in s cells order given counter budget table =
-    let o = overlay s cells in
+next-in : {S : Type 0} (o : Overlay S) (cause : ℕ) (given : List ℕ) (budget : ℕ) (table : List ℕ) → let p = pageCallOn o cause (ticketIn given) budget table in ticketIn (ticketAfter given p) ≡ p .ticket
+next-in o cause given budget table =
     let p = paged o (cursorIn given) budget table in
-    chosen-next given (pageCause s cells order (ticketIn given) counter) (pageOf o (ticketIn given .count) p) (stop-none o (cursorIn given) budget table) (ticket-back _ (due-five (sizesOf s) (p .rest)))
+    chosen-next given cause (pageOf o (ticketIn given .count) p) (stop-none o (cursorIn given) budget table) (ticket-back _ (due-five (o .sizes) (p .rest)))
 
 next : (x : Call) (given : List ℕ) → x .ticket ≡ ticketIn given → ticketIn (ticketAfter given (served x .answer)) ≡ served x .answer .ticket
 next x given k =
-    subst (λ (t : Ticket). let p = pageCall (x .shape) (x .cells) (x .order) t (x .counter) (x .budget) (x .table) in ticketIn (ticketAfter given p) ≡ p .ticket) (sym k)
-    (next-in (x .shape) (x .cells) (x .order) given (x .counter) (x .budget) (x .table))
+    let o = overlayOf (x .windows) (x .shape) (x .cells) in
+    let cause = servedOn o (firstOf x) x .cause in
+    of-served (λ v. ticketIn (ticketAfter given (v .answer)) ≡ v .answer .ticket) x
+    (subst (λ (t : Ticket). let p = pageCallOn o cause t (x .budget) (x .table) in ticketIn (ticketAfter given p) ≡ p .ticket) (sym k) (next-in o cause given (x .budget) (x .table)))
 
 -- no probe has the cursor that stands for none
-not-found : (ns : List ℕ) (w : List (Probe Rect)) → findIn ns noCursor w ≡ none
+not-found : {S : Type 0} (ns : List ℕ) (w : List (Probe S)) → findIn ns noCursor w ≡ none
 unfolding sameCursor
 not-found ns [] = refl
 not-found ns (t ∷ w) = not-found ns w
 
-no-resume : (s : Shape) (cells : List ℤ) → resume (overlay s cells) noCursor ≡ none
+no-resume : {S : Type 0} (o : Overlay S) → resume o noCursor ≡ none
 unfolding resume sameCursor
-no-resume s cells = not-found (sizesOf s) (overlay s cells .walk)
+no-resume o = not-found (o .sizes) (o .walk)
 
-none-refused : (s : Shape) (cells : List ℤ) (order given counter : List ℕ) → 1 < getD given 0 0 → orderCause s cells order ≡ 0 → pageCause s cells order (ticketIn given) counter ≡ 6
-unfolding cursorCause pageCause
-none-refused s cells order given counter high sound = rw (← in-none given high) (rw sound (rw (no-resume s cells) refl))
+none-refused : (x : Call) (given : List ℕ) → x .ticket ≡ ticketIn given → 1 < getD given 0 0 → firstCause (x .windows) (x .shape) (x .cells) (x .order) ≡ 0 → served x .cause ≡ 6
+none-refused x given k high sound =
+    let o = overlayOf (x .windows) (x .shape) (x .cells) in
+    let c : x .ticket .cursor ≡ noCursor = ap (λ (t : Ticket). t .cursor) k ∙ sym (in-none given high) in
+    of-served (λ v. v .cause ≡ 6) x (rw (sound, c, no-resume o) refl)
 
 -- ---- lists of exported calls
-module _ (s : Shape) (cells : List ℤ) where
+module _ (windows : Option (List ℕ)) (s : Shape) (cells : List ℤ) where
   -- they are lists of calls
-  run : {tickets : List (List ℕ)} {counter : List ℕ} {xs : List Call} (r : Course) → map ticketIn tickets ≡ r .newest ∷ r .earlier → counter ≡ r .counter → CellRun s cells tickets counter xs → OneRun s cells r xs
+  run : {tickets : List (List ℕ)} {counter : List ℕ} {xs : List Call} (r : Course) → map ticketIn tickets ≡ r .newest ∷ r .earlier → counter ≡ r .counter → CellRun windows s cells tickets counter xs → OneRun windows s cells r xs
   run r p q end = run-end
   run r p q (refused n h) = run-refused n (run r p q h)
-  run r p q (accepted {x = x} given e j c m k u h) =
-      run-accepted {r = r} e j c (rw (k, ← p) (Memᴰ·map ticketIn m)) (u ∙ q) (run (advanced r (served x)) (rw (next x given k, p)) refl h)
+  run r p q (accepted {x = x} given e w j c m k u h) =
+      run-accepted {r = r} e w j c (rw (k, ← p) (Memᴰ·map ticketIn m)) (u ∙ q) (run (advanced r (served x)) (rw (next x given k, p)) refl h)
 
   cell-paging : (order counter : List ℕ) (xs : List Call) → Typed s → freshCause s cells order counter ≡ 0
-      → CellRun s cells (ticketCells (freshCall s cells order counter .ticket) ∷ []) (freshCounter s cells order counter) xs
-      → PagingHolds (overlay s cells) (map served xs) × TicketsHold (begun s cells order counter) (map served xs)
-  cell-paging order counter xs typed f h = demand3 .paging s cells order counter xs typed f (run (begun s cells order counter) (rw (first s cells order counter)) refl h)
+      → CellRun windows s cells (ticketCells (freshCall s cells order counter .ticket) ∷ []) (freshCounter s cells order counter) xs
+      → PagingHolds (overlayOf windows s cells) (map served xs) × TicketsHold (begun s cells order counter) (map served xs)
+  cell-paging order counter xs typed f h = demand3 .paging windows s cells order counter xs typed f (run (begun s cells order counter) (rw (first s cells order counter)) refl h)
 
 -- ---- codes
 stops : (stop : Stop) → ((stopCode stop ≡ 1) ↔ (stop ≡ Ended)) × ((stopCode stop ≡ 2) ↔ (stop ≡ Full)) × ((stopCode stop ≡ 3) ↔ (stop ≡ Spent))

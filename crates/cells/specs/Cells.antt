@@ -14,6 +14,7 @@ use Rattle.floats.specs.Values.{exact}
 use Rattle.survey.specs.declared.Strip.{Strip}
 use Rattle.survey.specs.declared.Strip.the-variants.{Free, From, To, Between}
 use Rattle.pairs.specs.PairCall.{PairValues}
+use Rattle.windows.specs.HoursCall.{HoursValues}
 use Rattle.paging.specs.declared.Cursor.{Cursor}
 use Rattle.paging.specs.declared.Page.{Page}
 use Rattle.paging.specs.declared.Ticket.{Ticket}
@@ -76,6 +77,10 @@ commonCells v = v .left ∷ v .bottom ∷ v .right ∷ v .top ∷ pos (v .kind) 
 -- ---- pairs of layers: the lower layer, the higher
 abbrev pub pairCells : PairValues → List ℕ
 pairCells v = v .lower ∷ v .higher ∷ []
+
+-- ---- shared minutes: the first, and the first after them
+abbrev pub hoursCells : HoursValues → List ℕ
+hoursCells v = v .from ∷ v .to ∷ []
 
 -- ---- strips: a kind (0 free, 1 a lower stop, 2 an upper stop, 3 both) and two stops, of which those that the kind has not are not looked at
 -- stands for a kind above 3: its lower stop is above its upper one, so 21 refuses it

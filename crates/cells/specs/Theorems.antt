@@ -2,6 +2,7 @@
 use mathlib.Core.Path.{_≡_}
 use mathlib.Core.List.{List, [], _∷_, map, List·Memᴰ}
 use mathlib.Core.Logic.{_↔_}
+use mathlib.Core.Option.{Option}
 use Prim.Native.Nat.{ℕ, _<_}
 use lib.IntN.{ℤ, pos}
 use lib.ListN.{getD}
@@ -10,38 +11,37 @@ use Rattle.totals.specs.declared.Total.{Total}
 use Rattle.totals.specs.Totals.{valueOf}
 use Rattle.plan.specs.declared.Shape.{Shape}
 use Rattle.plan.specs.Plan.{Typed}
-use Rattle.sweep.specs.Sweep.{orderCause}
 use Rattle.search.specs.declared.Stop.{Stop}
 use Rattle.search.specs.declared.Stop.the-variants.{Ended, Full, Spent, Refused}
 use Rattle.paging.specs.declared.Page.{Page}
-use Rattle.paging.specs.Overlays.{overlay}
-use Rattle.paging.specs.Calls.{freshCause, freshCall, freshCounter, pageCause}
-use Rattle.paging.specs.Theorems.{Call, served, begun, PagingHolds, TicketsHold}
+use Rattle.paging.specs.Overlays.{overlayOf}
+use Rattle.paging.specs.Calls.{freshCause, freshCall, freshCounter}
+use Rattle.paging.specs.Theorems.{Call, served, begun, firstCause, PagingHolds, TicketsHold}
 use Rattle.survey.specs.declared.Strip.{Strip}
 use Rattle.survey.specs.declared.Strip.the-variants.{Free, From, To, Between}
 use Rattle.survey.specs.CoverCall.{coverCause}
 use Rattle.cells.specs.Cells.{shapeOf, ticketCells, ticketIn, stopCode, pageCells, ticketAfter, runCells, rowCells, commonCells, stripIn, acrossIn, upwardIn}
 
--- a list of exported page calls in one run, by the calls that they hand on: an accepted one brings, in its ticket's cells, what the fresh call or an accepted one
+-- a list of exported page calls in one run, timed or not, by the calls that they hand on: an accepted one brings, in its ticket's cells, what the fresh call or an accepted one
 -- before it left there, and the counter as the last of them left it. `tickets` are these cells, the newest first. A refused call may bring anything
-pub data CellRun (s : Shape) (cells : List ℤ) : (tickets : List (List ℕ)) → (counter : List ℕ) → List Call → Type 0 where
-  end : {tickets : List (List ℕ)} {counter : List ℕ} → CellRun s cells tickets counter []
-  refused : {tickets : List (List ℕ)} {counter : List ℕ} {x : Call} {xs : List Call} → (served x .cause ≡ 0 → ⊥) → CellRun s cells tickets counter xs → CellRun s cells tickets counter (x ∷ xs)
-  accepted : {tickets : List (List ℕ)} {counter : List ℕ} {x : Call} {xs : List Call} (given : List ℕ) → served x .cause ≡ 0 → x .shape ≡ s → x .cells ≡ cells
-      → List·Memᴰ given tickets → x .ticket ≡ ticketIn given → x .counter ≡ counter → CellRun s cells (ticketAfter given (served x .answer) ∷ tickets) (served x .counted) xs → CellRun s cells tickets counter (x ∷ xs)
+pub data CellRun (windows : Option (List ℕ)) (s : Shape) (cells : List ℤ) : (tickets : List (List ℕ)) → (counter : List ℕ) → List Call → Type 0 where
+  end : {tickets : List (List ℕ)} {counter : List ℕ} → CellRun windows s cells tickets counter []
+  refused : {tickets : List (List ℕ)} {counter : List ℕ} {x : Call} {xs : List Call} → (served x .cause ≡ 0 → ⊥) → CellRun windows s cells tickets counter xs → CellRun windows s cells tickets counter (x ∷ xs)
+  accepted : {tickets : List (List ℕ)} {counter : List ℕ} {x : Call} {xs : List Call} (given : List ℕ) → served x .cause ≡ 0 → x .windows ≡ windows → x .shape ≡ s → x .cells ≡ cells
+      → List·Memᴰ given tickets → x .ticket ≡ ticketIn given → x .counter ≡ counter → CellRun windows s cells (ticketAfter given (served x .answer) ∷ tickets) (served x .counted) xs → CellRun windows s cells tickets counter (x ∷ xs)
 
 pub record TicketsInCells : Type 0 where
   -- what demand 3 says of lists of calls, of every list of exported ones in the run that an accepted fresh call begins
-  pub paging : (s : Shape) (cells : List ℤ) (order counter : List ℕ) (xs : List Call) → Typed s → freshCause s cells order counter ≡ 0
-      → CellRun s cells (ticketCells (freshCall s cells order counter .ticket) ∷ []) (freshCounter s cells order counter) xs
-      → PagingHolds (overlay s cells) (map served xs) × TicketsHold (begun s cells order counter) (map served xs)
+  pub paging : (windows : Option (List ℕ)) (s : Shape) (cells : List ℤ) (order counter : List ℕ) (xs : List Call) → Typed s → freshCause s cells order counter ≡ 0
+      → CellRun windows s cells (ticketCells (freshCall s cells order counter .ticket) ∷ []) (freshCounter s cells order counter) xs
+      → PagingHolds (overlayOf windows s cells) (map served xs) × TicketsHold (begun s cells order counter) (map served xs)
   -- no two tickets that calls return have the same cells: each is read back from its own
   pub fresh : (s : Shape) (cells : List ℤ) (order counter : List ℕ) → ticketIn (ticketCells (freshCall s cells order counter .ticket)) ≡ freshCall s cells order counter .ticket
   pub page : (x : Call) (given : List ℕ) → x .ticket ≡ ticketIn given → ticketIn (ticketAfter given (served x .answer)) ≡ served x .answer .ticket
   -- why a page stopped, as its first cell says it
   pub stops : (stop : Stop) → ((stopCode stop ≡ 1) ↔ (stop ≡ Ended)) × ((stopCode stop ≡ 2) ↔ (stop ≡ Full)) × ((stopCode stop ≡ 3) ↔ (stop ≡ Spent))
   -- cells with a flag above 1 are refused by 6 where no earlier cause applies
-  pub refused : (s : Shape) (cells : List ℤ) (order given counter : List ℕ) → 1 < getD given 0 0 → orderCause s cells order ≡ 0 → pageCause s cells order (ticketIn given) counter ≡ 6
+  pub refused : (x : Call) (given : List ℕ) → x .ticket ≡ ticketIn given → 1 < getD given 0 0 → firstCause (x .windows) (x .shape) (x .cells) (x .order) ≡ 0 → served x .cause ≡ 6
 
 -- a plan's shape is handed over as k, six sizes and six margins, in this order
 pub record ShapesInCells : Type 0 where

@@ -15,6 +15,7 @@ use survey::Strip;
 use sweep::OrderAnswer;
 use text::Writing;
 use totals::value;
+use windows::HoursAnswer;
 ghost use mathlib.Core.Path.{_≡_};
 ghost use mathlib.Core.List.{[], _∷_};
 ghost use Prim.Native.Nat.{_+_, _*_};
@@ -23,10 +24,11 @@ ghost use Rattle.geometry.specs.Rectangles.{letterOf};
 ghost use Rattle.sweep.specs.Sweep.{orderNumber};
 ghost use Rattle.rows.specs.RowCall.{rowValues, commonValues};
 ghost use Rattle.pairs.specs.PairCall.{pairValues};
+ghost use Rattle.windows.specs.HoursCall.{hoursValues};
 ghost use Rattle.paging.specs.Calls.{stopNumber, runValues};
 ghost use Rattle.text.specs.Writer.{numberOf, lengthOf};
 ghost use Rattle.survey.specs.CoverCall.{coverValues};
-ghost use Rattle.cells.specs.Cells.{ticketCells, cursorIn, ticketIn, stopCode, pageCells, ticketAfter, runCells, rowCells, commonCells, stripIn, pairCells};
+ghost use Rattle.cells.specs.Cells.{ticketCells, cursorIn, ticketIn, stopCode, pageCells, ticketAfter, runCells, rowCells, commonCells, stripIn, pairCells, hoursCells};
 
 // The number of a writer's answer.
 pub fn written_number(writing: Writing) -> u32
@@ -129,6 +131,28 @@ pub fn pair_cells(answer: PairAnswer) -> [u64; 2]
         PairAnswer::Refused(_) => [0, 0],
         PairAnswer::Share => [0, 0],
         PairAnswer::Pair(lower, higher) => [lower as u64, higher as u64],
+    }
+}
+
+// The number of the answer of the call for a row's shared minutes.
+pub fn hours_number(answer: HoursAnswer) -> u32
+    ensures { λ r. ⌜ r ≡ hoursValues answer .number ⌝ }
+{
+    match answer {
+        HoursAnswer::Refused(cause) => cause,
+        HoursAnswer::NoRow => 0,
+        HoursAnswer::Shared(_, _) => 0,
+    }
+}
+
+// The cells of that answer.
+pub fn hours_cells(answer: HoursAnswer) -> [u32; 2]
+    ensures { λ r. ⌜ r ≡ hoursCells (hoursValues answer) ⌝ }
+{
+    match answer {
+        HoursAnswer::Refused(_) => [0, 0],
+        HoursAnswer::NoRow => [0, 0],
+        HoursAnswer::Shared(from, to) => [from, to],
     }
 }
 

@@ -17,7 +17,7 @@ use Rattle.paging.specs.declared.Run.the-variants as Run
 use Rattle.paging.specs.Theorems.{rowsIn}
 use Rattle.pager.specs.declared.answers.Listing.{Listing}
 use Rattle.pager.specs.declared.answers.Listing.the-variants.{Refused, Done}
-use Rattle.pager.specs.Answers.{Listed, runOn}
+use Rattle.pager.specs.Answers.{runOn}
 
 -- a union added to nothing
 module _ (t : Total) (u : ℕ) (rs : List Rect) (none : t ≡ totalOf 0) (is : u ≡ unionOf rs) where
@@ -31,10 +31,9 @@ module _ (t : Total) (u : ℕ) (rs : List Rect) (none : t ≡ totalOf 0) (is : u
   ground-total r e = let q : valueOf t + u ≡ unionOf rs = omega (arith, value-none, is) in e ∙ ap totalOf q
 
 module _ (sizes : List ℕ) (k : ℕ) (cells : List ℤ) (found : Listing) (table : List ℕ) where
-  pub run-on-refused : (c : ℕ) → found ≡ Refused c → Run.Refused c ≡ runOn sizes k cells found
-  run-on-refused c e = ap (runOn sizes k cells) (sym e)
+  pub run-on-refused : (c : ℕ) → found ≡ Refused c → Run.Refused c ≡ runOn sizes k cells table found
+  run-on-refused c e = ap (runOn sizes k cells table) (sym e)
 
-  pub run-on-done : Listed sizes k cells found table → (rows probes : ℕ) (area : Total) → found ≡ Done rows probes area
-      → (g : Total) → g ≡ totalOf (unionOf (grounds (layersOf (take k sizes) cells) (rowsIn k rows table))) → Run.Done rows probes area g ≡ runOn sizes k cells found
-  run-on-done h rows probes area e g q =
-      ap (λ (z : Total). Run.Done rows probes area z) (q ∙ ap (λ (l : List (List ℕ)). totalOf (unionOf (grounds (layersOf (take k sizes) cells) l))) (h .read rows probes area e)) ∙ ap (runOn sizes k cells) (sym e)
+  pub run-on-done : (rows probes : ℕ) (area : Total) → found ≡ Done rows probes area
+      → (g : Total) → g ≡ totalOf (unionOf (grounds (layersOf (take k sizes) cells) (rowsIn k rows table))) → Run.Done rows probes area g ≡ runOn sizes k cells table found
+  run-on-done rows probes area e g q = ap (λ (z : Total). Run.Done rows probes area z) q ∙ ap (runOn sizes k cells table) (sym e)

@@ -1,4 +1,4 @@
-// The calls on a plan that its own checks let through: over its grown cells, which are the cells as drawn where no layer has a margin, and over a copy that is
+// The calls on a plan that its own checks and those of its windows let through: over its grown cells, which are the cells as drawn where no layer has a margin, and over a copy that is
 // grown where one has. Check 5 is made here, since the order is that of the grown plan.
 use crate::answers::First;
 use crate::answers::first_cursor;
@@ -13,6 +13,7 @@ use paging::Ticket;
 use plan::MOST_CELLS;
 use plan::Shape;
 use plan::grow_plan;
+use plan::is_drawn;
 use slots::frame_of;
 use sweep::is_order;
 ghost use mathlib.Core.Path.{_≡_};
@@ -21,7 +22,7 @@ ghost use lib.ListN.{length};
 ghost use Rattle.plan.specs.Plan.{sizesOf, Sound};
 ghost use Rattle.plan.specs.Frames.{Framed};
 ghost use Rattle.paging.specs.Cursors.{endedCursor};
-ghost use Rattle.pager.specs.Answers.{firstOf, OverGrown, AsPage, AsRun};
+ghost use Rattle.pager.specs.Answers.{firstOf, Hourly, Paired, OverGrown, AsPage, AsRun};
 
 // ---- the first cursor
 pub fn refused_first(number: u32) -> First
@@ -40,9 +41,10 @@ pub fn first_over(shape: Shape, grown: &[i32], order: &[u32]) -> First
     if !is_order(grown, order) {
         return refused_first(5);
     }
+    let none = [0u32; 1];
     First {
         number: 0,
-        cursor: first_cursor(frame_of(shape), grown, order),
+        cursor: first_cursor(frame_of(shape, false), grown, &none, order),
     }
 }
 
@@ -60,6 +62,8 @@ pub fn first_grown(shape: Shape, cells: &[i32], order: &[u32]) -> First
 pub fn page_over(
     shape: Shape,
     grown: &[i32],
+    timed: bool,
+    hours: &[u32],
     order: &[u32],
     ticket: Ticket,
     counter: &mut [u64],
@@ -67,14 +71,16 @@ pub fn page_over(
     table: &mut [u32],
 ) -> Page
     requires { ⌜ (shape .k ≤ length (shape .sizes)) × Framed (sizesOf shape) (now grown) ⌝ }
-    ensures { λ r. ⌜ OverGrown shape (now (grown .entry)) (λ cells. AsPage shape cells (now (order .entry)) ticket (now (counter .entry)) budget (now (table .entry)) r (now (counter .exit)) (now (table .exit))) ⌝ }
+    requires { ⌜ Hourly timed shape (now hours) × Paired timed shape (now hours) ⌝ }
+    ensures { λ r. ⌜ OverGrown shape (now (grown .entry)) (λ cells. AsPage timed shape cells (now (hours .entry)) (now (order .entry)) ticket (now (counter .entry)) budget (now (table .entry)) r (now (counter .exit)) (now (table .exit))) ⌝ }
 {
     if !is_order(grown, order) {
         return refused_page(5, ticket);
     }
     page_at(
-        frame_of(shape),
+        frame_of(shape, timed),
         grown,
+        hours,
         order,
         ticket,
         counter,
@@ -86,51 +92,128 @@ pub fn page_over(
 pub fn page_grown(
     shape: Shape,
     cells: &[i32],
+    timed: bool,
+    hours: &[u32],
     order: &[u32],
     ticket: Ticket,
     counter: &mut [u64],
     budget: u32,
     table: &mut [u32],
 ) -> Page
-    requires { ⌜ Sound shape (now cells) ⌝ }
-    ensures { λ r. ⌜ AsPage shape (now (cells .entry)) (now (order .entry)) ticket (now (counter .entry)) budget (now (table .entry)) r (now (counter .exit)) (now (table .exit)) ⌝ }
+    requires { ⌜ Sound shape (now cells) × (Hourly timed shape (now hours) × Paired timed shape (now hours)) ⌝ }
+    ensures { λ r. ⌜ AsPage timed shape (now (cells .entry)) (now (hours .entry)) (now (order .entry)) ticket (now (counter .entry)) budget (now (table .entry)) r (now (counter .exit)) (now (table .exit)) ⌝ }
 {
     let mut run = [0i32; MOST_CELLS];
     grow_plan(shape, cells, &mut run);
     let n = cells.len();
-    page_over(shape, &run[..n], order, ticket, counter, budget, table)
+    page_over(
+        shape,
+        &run[..n],
+        timed,
+        hours,
+        order,
+        ticket,
+        counter,
+        budget,
+        table,
+    )
+}
+
+// The page over the cells as drawn, where no layer has a margin, or over a copy.
+pub fn page_on(
+    shape: Shape,
+    cells: &[i32],
+    timed: bool,
+    hours: &[u32],
+    order: &[u32],
+    ticket: Ticket,
+    counter: &mut [u64],
+    budget: u32,
+    table: &mut [u32],
+) -> Page
+    requires { ⌜ Sound shape (now cells) × Hourly timed shape (now hours) ⌝ }
+    ensures { λ r. ⌜ AsPage timed shape (now (cells .entry)) (now (hours .entry)) (now (order .entry)) ticket (now (counter .entry)) budget (now (table .entry)) r (now (counter .exit)) (now (table .exit)) ⌝ }
+{
+    if is_drawn(shape) {
+        return page_over(
+            shape,
+            cells,
+            timed,
+            hours,
+            order,
+            ticket,
+            counter,
+            budget,
+            table,
+        );
+    }
+    page_grown(
+        shape,
+        cells,
+        timed,
+        hours,
+        order,
+        ticket,
+        counter,
+        budget,
+        table,
+    )
 }
 
 // ---- the whole run
 pub fn run_over(
     shape: Shape,
     grown: &[i32],
+    timed: bool,
+    hours: &[u32],
     order: &[u32],
     table: &mut [u32],
     work: &mut [i32],
 ) -> Run
     requires { ⌜ (shape .k ≤ length (shape .sizes)) × Framed (sizesOf shape) (now grown) ⌝ }
-    ensures { λ r. ⌜ OverGrown shape (now (grown .entry)) (λ cells. AsRun shape cells (now (order .entry)) (now (table .entry)) (now (work .entry)) r (now (table .exit)) (now (work .exit))) ⌝ }
+    requires { ⌜ Hourly timed shape (now hours) × Paired timed shape (now hours) ⌝ }
+    ensures { λ r. ⌜ OverGrown shape (now (grown .entry)) (λ cells. AsRun timed shape cells (now (hours .entry)) (now (order .entry)) (now (table .entry)) (now (work .entry)) r (now (table .exit)) (now (work .exit))) ⌝ }
 {
     if !is_order(grown, order) {
         return Run::Refused(5);
     }
-    let listing = run_from(frame_of(shape), grown, order, table, work);
+    let listing = run_from(frame_of(shape, timed), grown, hours, order, table, work);
     with_ground(listing, shape, grown, table, work)
 }
 
 pub fn run_grown(
     shape: Shape,
     cells: &[i32],
+    timed: bool,
+    hours: &[u32],
     order: &[u32],
     table: &mut [u32],
     work: &mut [i32],
 ) -> Run
-    requires { ⌜ Sound shape (now cells) ⌝ }
-    ensures { λ r. ⌜ AsRun shape (now (cells .entry)) (now (order .entry)) (now (table .entry)) (now (work .entry)) r (now (table .exit)) (now (work .exit)) ⌝ }
+    requires { ⌜ Sound shape (now cells) × (Hourly timed shape (now hours) × Paired timed shape (now hours)) ⌝ }
+    ensures { λ r. ⌜ AsRun timed shape (now (cells .entry)) (now (hours .entry)) (now (order .entry)) (now (table .entry)) (now (work .entry)) r (now (table .exit)) (now (work .exit)) ⌝ }
 {
     let mut run = [0i32; MOST_CELLS];
     grow_plan(shape, cells, &mut run);
     let n = cells.len();
-    run_over(shape, &run[..n], order, table, work)
+    run_over(shape, &run[..n], timed, hours, order, table, work)
+}
+
+// The run over the cells as drawn, where no layer has a margin, or over a copy.
+pub fn run_on(
+    shape: Shape,
+    cells: &[i32],
+    timed: bool,
+    hours: &[u32],
+    order: &[u32],
+    table: &mut [u32],
+    work: &mut [i32],
+) -> Run
+    requires { ⌜ Sound shape (now cells) × Hourly timed shape (now hours) ⌝ }
+    ensures { λ r. ⌜ AsRun timed shape (now (cells .entry)) (now (hours .entry)) (now (order .entry)) (now (table .entry)) (now (work .entry)) r (now (table .exit)) (now (work .exit)) ⌝ }
+{
+    if is_drawn(shape) {
+        return run_over(shape, cells, timed, hours, order, table, work);
+    }
+    run_grown(shape, cells, timed, hours, order, table, work)
 }

@@ -1,22 +1,20 @@
-// The calls on the walk of a plan: the fresh ticket, a page, the whole run. What they answer is defined in the crate `paging`.
+// The calls on the walk of a plan: the fresh ticket, a page, the whole run, and the last two timed. What they answer is defined in the crate `paging`.
 mod answers;
 mod counters;
 mod grown;
 
 use answers::First;
-pub use answers::page_at;
+pub use answers::plain_cause;
+pub use answers::plain_page;
 use answers::refused_page;
-pub use answers::ticket_cause;
 use counters::fresh_cause;
 use counters::write_count;
 use cursors::ended_cursor;
 use grown::first_grown;
 use grown::first_over;
-use grown::page_grown;
-use grown::page_over;
+use grown::page_on;
 use grown::refused_first;
-use grown::run_grown;
-use grown::run_over;
+use grown::run_on;
 use paging::Fresh;
 use paging::Page;
 use paging::Run;
@@ -24,10 +22,11 @@ use paging::Ticket;
 use plan::Shape;
 use plan::is_drawn;
 use plan::plan_cause;
+use windows::hours_cause;
 ghost use mathlib.Core.Path.{_≡_};
 ghost use lib.ListN.{length};
 ghost use Rattle.pager.specs.Answers.{firstOf};
-ghost use Rattle.paging.specs.Calls.{freshCall, freshCounter, pageCause, stopNumber, pageCall, pageTable, pageCounter, runCause, runCall, runTable, WorkAfter};
+ghost use Rattle.paging.specs.Calls.{freshCall, freshCounter, pageCause, stopNumber, pageCall, pageTable, pageCounter, runCause, runCall, runTable, timedPageCause, timedPageCall, timedPageTable, timedPageCounter, timedRunCause, timedRunCall, timedRunTable, WorkAfter};
 
 // The ticket of the first probe of a plan's walk; a run begins, and its counter is 0 (01: the fresh-ticket call; 02: the run record).
 pub fn fresh_ticket(shape: Shape, cells: &[i32], order: &[u32], counter: &mut [u64]) -> Fresh
@@ -86,10 +85,18 @@ pub fn fetch_page(
     if cause != 0 {
         return refused_page(cause, ticket);
     }
-    if is_drawn(shape) {
-        return page_over(shape, cells, order, ticket, counter, budget, table);
-    }
-    page_grown(shape, cells, order, ticket, counter, budget, table)
+    let none = [0u32; 1];
+    page_on(
+        shape,
+        cells,
+        false,
+        &none,
+        order,
+        ticket,
+        counter,
+        budget,
+        table,
+    )
 }
 
 // All rows of a plan's table into a lent table, if they fit (01: the whole run). Their ground is counted once with the help of a work buffer (02, Q-6).
@@ -108,8 +115,60 @@ pub fn run_all(
     if cause != 0 {
         return Run::Refused(cause);
     }
-    if is_drawn(shape) {
-        return run_over(shape, cells, order, table, work);
+    let none = [0u32; 1];
+    run_on(shape, cells, false, &none, order, table, work)
+}
+
+// ---- timed calls (02, Q-12): `hours` has a window of the week for each rectangle
+// A page of the timed walk of a plan from a ticket on.
+pub fn timed_page(
+    shape: Shape,
+    cells: &[i32],
+    hours: &[u32],
+    order: &[u32],
+    ticket: Ticket,
+    counter: &mut [u64],
+    budget: u32,
+    table: &mut [u32],
+) -> Page
+    ensures answer { λ r. ⌜ r ≡ timedPageCall shape (now (cells .entry)) (now (hours .entry)) (now (order .entry)) ticket (now (counter .entry)) budget (now (table .entry)) ⌝ }
+    ensures number { λ r. ⌜ stopNumber (r .stop) ≡ timedPageCause shape (now (cells .entry)) (now (hours .entry)) (now (order .entry)) ticket (now (counter .entry)) ⌝ }
+    ensures counter { λ _. ⌜ now (counter .exit) ≡ timedPageCounter shape (now (cells .entry)) (now (hours .entry)) (now (order .entry)) ticket (now (counter .entry)) budget (now (table .entry)) ⌝ }
+    ensures table { λ _. ⌜ now (table .exit) ≡ timedPageTable shape (now (cells .entry)) (now (hours .entry)) (now (order .entry)) ticket (now (counter .entry)) budget (now (table .entry)) ⌝ }
+{
+    let cause = hours_cause(shape, cells, hours);
+    if cause != 0 {
+        return refused_page(cause, ticket);
     }
-    run_grown(shape, cells, order, table, work)
+    page_on(
+        shape,
+        cells,
+        true,
+        hours,
+        order,
+        ticket,
+        counter,
+        budget,
+        table,
+    )
+}
+
+// All rows of a plan's timed table into a lent table, if they fit.
+pub fn timed_run(
+    shape: Shape,
+    cells: &[i32],
+    hours: &[u32],
+    order: &[u32],
+    table: &mut [u32],
+    work: &mut [i32],
+) -> Run
+    ensures answer { λ r. ⌜ r ≡ timedRunCall shape (now (cells .entry)) (now (hours .entry)) (now (order .entry)) (now (table .entry)) (length (now (work .entry))) ⌝ }
+    ensures table { λ _. ⌜ now (table .exit) ≡ timedRunTable shape (now (cells .entry)) (now (hours .entry)) (now (order .entry)) (now (table .entry)) (length (now (work .entry))) ⌝ }
+    ensures work { λ _. ⌜ WorkAfter (timedRunCause shape (now (cells .entry)) (now (hours .entry)) (now (order .entry)) (now (table .entry)) (length (now (work .entry)))) (now (work .entry)) (now (work .exit)) ⌝ }
+{
+    let cause = hours_cause(shape, cells, hours);
+    if cause != 0 {
+        return Run::Refused(cause);
+    }
+    run_on(shape, cells, true, hours, order, table, work)
 }

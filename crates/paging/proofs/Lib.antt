@@ -10,6 +10,7 @@ pub mod Lists
 pub mod Pages
 pub mod Named
 pub mod Counters
+pub mod Serving
 pub mod Causes
 pub mod Runs
 pub mod Theorems

@@ -1,7 +1,7 @@
 -- What the round call answers, in each of its cases.
 use mathlib.Core.Path.{_≡_, refl}
 use mathlib.Core.Bool.{true, false}
-use mathlib.Core.List.{List}
+use mathlib.Core.List.{List, []}
 use Prim.Native.Nat.{ℕ, zero, suc}
 use lib.IntN.{ℤ}
 use lib.ListN.{length}
@@ -44,7 +44,7 @@ module _ (q : Request) where
     by-clients e n h = rw (passed, e) h
 
 -- what the round goes on with, once plan and order are let through
-pub opens : (s : Shape) (plain : List ℤ) (order : List ℕ) (here : List ℤ) (f : Frame) → Admitted s plain order here f → Made s f → Opens s plain order here f
+pub opens : (s : Shape) (plain : List ℤ) (order : List ℕ) (here : List ℤ) (f : Frame) → Admitted false s plain [] order here f → Made s false f → Opens s plain order here f
 opens s plain order here f a m = record { sound = a .sound; passed = a .passed; is = a .is; k = m .k; sizes = a .sizes }
 
 -- the promise, clause by clause

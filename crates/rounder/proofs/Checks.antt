@@ -1,7 +1,7 @@
 -- The checks of a round, in each case.
 use mathlib.Core.Path.{_≡_, refl, sym, ap, ap₂, _∙_}
 use mathlib.Core.Bool.{false}
-use mathlib.Core.List.{List}
+use mathlib.Core.List.{List, []}
 use Prim.Native.Nat.{ℕ, suc, _+_, _-_, _≤_, _<_}
 use native.Mathlib.Numerals.{add-one}
 use native.Mathlib.Omega.{arith}
@@ -15,10 +15,9 @@ use Rattle.plan.proofs.Plan.{or-else-first}
 use Rattle.paging.specs.declared.Ticket.{Ticket}
 use Rattle.paging.specs.Overlays.{overlay}
 use Rattle.paging.specs.Cursors.{endedCursor}
-use Rattle.paging.specs.Calls.{cursorCause, pageCause}
-use Rattle.paging.proofs.Overlays.{overlayOf}
+use Rattle.paging.specs.Calls.{pageCause}
 use Rattle.slots.specs.declared.Frame.{Frame}
-use Rattle.pager.specs.Answers.{frameOverlay, ticketCause}
+use Rattle.pager.specs.Answers.{overlayIn, plainOverlay, ticketCause}
 use Rattle.rounds.specs.Rounds.{ticketOf, counterOf, fits, clientsCause}
 use Rattle.rounder.specs.Parts.{Opens, OnPlans}
 use Rattle.rounds.proofs.Parts.{getD-any}
@@ -56,12 +55,12 @@ module _ (m first budget records : ℕ) where
 -- ---- 6 and 18
 module _ {s : Shape} {plain : List ℤ} {order : List ℕ} {here : List ℤ} {f : Frame} (k : Opens s plain order here f) where
   -- the frame's overlay is the plan's
-  pub same-overlay : frameOverlay f here ≡ overlay s plain
-  same-overlay = ap₂ overlayOf (k .sizes) (k .is)
+  pub same-overlay : plainOverlay f here ≡ overlay s plain
+  same-overlay = ap₂ (λ (ns : List ℕ) (l : List ℤ). overlayIn false ns l []) (k .sizes) (k .is)
 
   -- what is left of a page call's checks behind those of plan and order
-  pub ticket-checks : (t : Ticket) (counter : List ℕ) → pageCause s plain order t counter ≡ ticketCause (frameOverlay f here) t counter
-  unfolding pageCause cursorCause
+  pub ticket-checks : (t : Ticket) (counter : List ℕ) → pageCause s plain order t counter ≡ ticketCause (plainOverlay f here) t counter
+  unfolding pageCause
   ticket-checks t counter = rw (k .passed, same-overlay)
 
 module _ (order : List ℕ) (here : List ℤ) (f : Frame) (m : ℕ) (tickets : List Ticket) (counters : List ℕ) where
@@ -76,7 +75,7 @@ module _ (order : List ℕ) (here : List ℤ) (f : Frame) (m : ℕ) (tickets : L
   pub passing-all : (i : ℕ) → Passing i → m ≤ i → OnPlans order here f (λ s plain. 0 ≡ clientsCause s plain order tickets counters 1 m)
   passing-all i p h s plain k = let z : m - i ≡ 0 = omega arith in sym (p .same s plain k ∙ rw z)
 
-  module _ (i : ℕ) (p : Passing i) (h : i < m) (l : length tickets ≡ 16) (most : m ≤ 16) (d : Ticket) (a : ℕ) (one : a ≡ 1) (cause : ℕ) (e : cause ≡ ticketCause (frameOverlay f here) (getD tickets i d) (take a (drop i counters))) where
+  module _ (i : ℕ) (p : Passing i) (h : i < m) (l : length tickets ≡ 16) (most : m ≤ 16) (d : Ticket) (a : ℕ) (one : a ≡ 1) (cause : ℕ) (e : cause ≡ ticketCause (plainOverlay f here) (getD tickets i d) (take a (drop i counters))) where
     -- the next client's cause comes first
     next-cause : OnPlans order here f (λ s plain. clientsCause s plain order tickets counters 1 m ≡ (cause orElse clientsCause s plain order tickets counters (suc (i + 1)) (m - (i + 1))))
     next-cause s plain k =
@@ -85,7 +84,7 @@ module _ (order : List ℕ) (here : List ℤ) (f : Frame) (m : ℕ) (tickets : L
         let x = add-one i in
         let t : getD tickets i d ≡ ticketOf tickets (suc i) = getD-any tickets i d _ (omega arith) ∙ ap (λ (j : ℕ). getD tickets j (record { cursor = endedCursor; count = 0 })) (sym y) in
         let u : take a (drop i counters) ≡ counterOf counters (suc i) = ap₂ (λ (j n : ℕ). take j (drop n counters)) one (sym y) in
-        let c : cause ≡ pageCause s plain order (ticketOf tickets (suc i)) (counterOf counters (suc i)) = e ∙ ap₂ (ticketCause (frameOverlay f here)) t u ∙ sym (ticket-checks k _ _) in
+        let c : cause ≡ pageCause s plain order (ticketOf tickets (suc i)) (counterOf counters (suc i)) = e ∙ ap₂ (ticketCause (plainOverlay f here)) t u ∙ sym (ticket-checks k _ _) in
         p .same s plain k ∙ rw (z, x, c)
 
     pub passing-stops : (cause ≡ 0 → ⊥) → OnPlans order here f (λ s plain. cause ≡ clientsCause s plain order tickets counters 1 m)

@@ -23,7 +23,7 @@ use Rattle.paging.specs.Pages.{room}
 use Rattle.paging.specs.Calls.{current}
 use Rattle.slots.specs.declared.Frame.{Frame}
 use Rattle.slots.specs.Frames.{Framing}
-use Rattle.pager.specs.Answers.{frameOverlay, Kept, PagedAt}
+use Rattle.pager.specs.Answers.{plainOverlay, Kept, PagedAt}
 use Rattle.rounds.specs.Shares.{after, clientAt}
 use Rattle.rounds.specs.Rounds.{request, ticketOf, partSize}
 use Rattle.rounds.proofs.Shares.{client-from, client-to}
@@ -87,7 +87,7 @@ module _ (f : Frame) (here : List ℤ) (order : List ℕ) (m first budget : ℕ)
           one-less zero n a = absurd (omega arith)
           one-less (suc t) n a = let z : suc t - 1 ≡ t = omega arith in rw z (omega arith)
 
-      module _ (p : Page) (heldAfter lentAfter : List ℕ) (one : OneServed (frameOverlay f here) (ticketOf tickets (suc (client - 1))) (client - 1) size (left / (m - i)) held lent p heldAfter lentAfter) where
+      module _ (p : Page) (heldAfter lentAfter : List ℕ) (one : OneServed (plainOverlay f here) (ticketOf tickets (suc (client - 1))) (client - 1) size (left / (m - i)) held lent p heldAfter lentAfter) where
         pub probes-left : p .probes ≤ left
         probes-left = le-trans (paged-few _ _ _ _ _ p _ _ (one .page)) (div-le-self left (m - i))
 
@@ -107,7 +107,7 @@ module _ (f : Frame) (here : List ℤ) (order : List ℕ) (m first budget : ℕ)
             again s plain k =
                 let q = request s plain order m first budget tickets counters table in
                 let e : size ≡ partSize q = parts ∙ ap (λ (x : ℕ). x * (length table / (x * m))) (k .k) in
-                let sized = subst (λ (x : ℕ). OneServed (frameOverlay f here) (ticketOf tickets (suc (client - 1))) (client - 1) x (left / (m - i)) held lent p heldAfter lentAfter) e one in
-                let o = subst (λ (x : ℕ). OneServed (frameOverlay f here) (ticketOf tickets (suc (x - 1))) (x - 1) (partSize q) (left / (m - i)) held lent p heldAfter lentAfter) (g .due) sized in
+                let sized = subst (λ (x : ℕ). OneServed (plainOverlay f here) (ticketOf tickets (suc (client - 1))) (client - 1) x (left / (m - i)) held lent p heldAfter lentAfter) e one in
+                let o = subst (λ (x : ℕ). OneServed (plainOverlay f here) (ticketOf tickets (suc (x - 1))) (x - 1) (partSize q) (left / (m - i)) held lent p heldAfter lentAfter) (g .due) sized in
                 subst (λ (x : ℕ). Turned q (i + 1) (set r (x - 1) p) heldAfter lentAfter (left - p .probes)) (sym (g .due))
                 (turned-more q from to most long sixteen (k .sound .typed) i h r held lent left (g .turned s plain k) here f fr od k p heldAfter lentAfter o)

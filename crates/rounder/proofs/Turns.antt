@@ -24,8 +24,8 @@ use Rattle.paging.specs.Overlays.{Overlay}
 use Rattle.paging.specs.Cursors.{endedCursor}
 use Rattle.slots.specs.declared.Frame.{Frame}
 use Rattle.slots.specs.Frames.{Framing}
-use Rattle.pager.specs.Answers.{frameOverlay, PagedAt}
-use Rattle.pager.proofs.Calls.{Admitted, page-made}
+use Rattle.pager.specs.Answers.{plainOverlay, PagedAt}
+use Rattle.pager.proofs.Calls.{plain-made, untimed-page}
 use Rattle.rounds.specs.Shares.{clientAt, turnOf, leftBehind}
 use Rattle.rounds.specs.Rounds.{Request, idlePage, ticketOf, ticketAt, counterAt, partSize, partAt, probesOf, budgetAt, pageAt, countedAt, filledAt, answerAt}
 use Rattle.rounds.specs.Theorems.{callOf}
@@ -188,12 +188,12 @@ module _ (q : Request) where
 
         -- what it gets
         pub turned-more : (here : List ℤ) (f : Frame) → Framing f here → q .order ≡ sweepOrder here → Opens (q .shape) (q .cells) (q .order) here f → (p : Page) (heldAfter lentAfter : List ℕ)
-            → OneServed (frameOverlay f here) (ticketOf (q .tickets) (suc (c - 1))) (c - 1) (partSize q) (left / (q .clients - i)) held lent p heldAfter lentAfter
+            → OneServed (plainOverlay f here) (ticketOf (q .tickets) (suc (c - 1))) (c - 1) (partSize q) (left / (q .clients - i)) held lent p heldAfter lentAfter
             → Turned (i + 1) (set r (c - 1) p) heldAfter lentAfter (left - p .probes)
         unfolding leftBehind probesOf
         turned-more here f fr od k p heldAfter lentAfter one =
-            let a : Admitted (q .shape) (q .cells) (q .order) here f = record { sound = k .sound; passed = k .passed; is = k .is; sizes = k .sizes } in
-            let told = page-made (q .shape) (q .cells) (q .order) (ticketAt q c) (counterAt q c) (budgetAt q c) (partAt q c) here f a p (one .counted) (one .filled) (moved (frameOverlay f here) its-ticket its-counter its-budget its-part (one .page)) in
+            let told = untimed-page (q .shape) (q .cells) [] (q .order) (ticketAt q c) (counterAt q c) (budgetAt q c) (partAt q c) p (one .counted) (one .filled)
+            (plain-made (q .shape) (q .cells) (q .order) (ticketAt q c) (counterAt q c) (budgetAt q c) (partAt q c) here f (k .passed) (k .sizes) (k .is) p (one .counted) (one .filled) (moved (plainOverlay f here) its-ticket its-counter its-budget its-part (one .page))) in
             let page : p ≡ pageAt q c = told .0 in
             let z : (c - 1) * 1 ≡ c - 1 = omega arith in
             let u = part-put 1 (q .clients) (till i (countedAt q) (counterAt q)) [] (counters-one i) c low high (till (i + 1) (countedAt q) (counterAt q)) (till-same (countedAt q) (counterAt q)) in

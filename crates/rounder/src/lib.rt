@@ -2,7 +2,7 @@
 // defined in the crate `rounds`. All clients are checked before anything is written.
 mod serving;
 
-use pager::ticket_cause;
+use pager::plain_cause;
 use paging::Ticket;
 use plan::MOST_CELLS;
 use plan::Shape;
@@ -18,6 +18,7 @@ use slots::Frame;
 use slots::frame_of;
 use sweep::is_order;
 ghost use mathlib.Core.Path.{_≡_};
+ghost use mathlib.Core.Bool.{false};
 ghost use Prim.Native.Nat.{_≤_};
 ghost use lib.ListN.{length};
 ghost use Rattle.plan.specs.Plan.{sizesOf, Sound};
@@ -93,7 +94,7 @@ fn round_over(
         return refused_round(5, tickets);
     }
     round_on(
-        frame_of(shape),
+        frame_of(shape, false),
         grown,
         order,
         m,
@@ -178,7 +179,7 @@ fn clients_cause(
     tickets: [Ticket; 16],
     counters: &[u64],
 ) -> u32
-    requires { ⌜ Framing frame (now cells) × (now order ≡ sweepOrder (now cells)) ⌝ }
+    requires { ⌜ Framing frame (now cells) × (now order ≡ sweepOrder (now cells)) × (frame .timed ≡ false) ⌝ }
     requires { ⌜ (m ≤ 16) × (m ≤ length (now counters)) ⌝ }
     ensures { λ r. ⌜ OnPlans (now (order .entry)) (now (cells .entry)) frame (λ s plain. r ≡ clientsCause s plain (now (order .entry)) tickets (now (counters .entry)) 1 m) ⌝ }
 {
@@ -186,7 +187,7 @@ fn clients_cause(
     while i < m {
         let ticket = tickets[i];
         let next = i + 1;
-        let cause = ticket_cause(frame, cells, order, ticket, &counters[i..next]);
+        let cause = plain_cause(frame, cells, order, ticket, &counters[i..next]);
         if cause != 0 {
             return cause;
         }
@@ -207,7 +208,7 @@ fn round_on(
     counters: &mut [u64],
     table: &mut [u32],
 ) -> Round
-    requires { ⌜ Framing frame (now cells) × (now order ≡ sweepOrder (now cells)) ⌝ }
+    requires { ⌜ Framing frame (now cells) × (now order ≡ sweepOrder (now cells)) × (frame .timed ≡ false) ⌝ }
     ensures { λ r. ⌜ OnPlans (now (order .entry)) (now (cells .entry)) frame (λ s plain. RoundAnswered (request s plain (now (order .entry)) m first budget tickets (now (counters .entry)) (now (table .entry))) r (now (counters .exit)) (now (table .exit))) ⌝ }
 {
     if !is_fitting(m, first, budget, counters.len()) {

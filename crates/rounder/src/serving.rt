@@ -1,17 +1,18 @@
 // The turns of a round: each client's page call, out of what is left of the budget, into its part of the table.
-use pager::page_at;
+use pager::plain_page;
 use paging::Page;
 use paging::Ticket;
 use search::Stop;
 use slots::Frame;
 use totals::nothing;
 ghost use mathlib.Core.Path.{_≡_};
+ghost use mathlib.Core.Bool.{false};
 ghost use mathlib.Core.List.{map};
 ghost use Prim.Native.Nat.{suc, _+_, _*_, _/_, _≤_, _<_};
 ghost use lib.ListN.{length};
 ghost use Rattle.sweep.specs.Sweep.{sweepOrder};
 ghost use Rattle.slots.specs.Frames.{Framing};
-ghost use Rattle.pager.specs.Answers.{frameOverlay};
+ghost use Rattle.pager.specs.Answers.{plainOverlay};
 ghost use Rattle.rounds.specs.Shares.{after};
 ghost use Rattle.rounds.specs.Rounds.{request, ticketOf};
 ghost use Rattle.rounder.specs.Parts.{emptyPage, OnPlans, OneServed, AllServed};
@@ -75,15 +76,15 @@ fn serve_one(
     counters: &mut [u64],
     table: &mut [u32],
 ) -> Page
-    requires { ⌜ Framing frame (now cells) × (now order ≡ sweepOrder (now cells)) ⌝ }
+    requires { ⌜ Framing frame (now cells) × (now order ≡ sweepOrder (now cells)) × (frame .timed ≡ false) ⌝ }
     requires { ⌜ (at < 16) × (at < length (now counters)) × (at * size + size ≤ length (now table)) ⌝ }
-    ensures { λ r. ⌜ OneServed (frameOverlay frame (now (cells .entry))) (ticketOf tickets (suc at)) at size budget (now (counters .entry)) (now (table .entry)) r (now (counters .exit)) (now (table .exit)) ⌝ }
+    ensures { λ r. ⌜ OneServed (plainOverlay frame (now (cells .entry))) (ticketOf tickets (suc at)) at size budget (now (counters .entry)) (now (table .entry)) r (now (counters .exit)) (now (table .exit)) ⌝ }
 {
     let ticket = tickets[at];
     let next = at + 1;
     let start = at * size;
     let end = start + size;
-    page_at(
+    plain_page(
         frame,
         cells,
         order,
@@ -106,7 +107,7 @@ pub fn serve_all(
     counters: &mut [u64],
     table: &mut [u32],
 ) -> [Page; 16]
-    requires { ⌜ Framing frame (now cells) × (now order ≡ sweepOrder (now cells)) ⌝ }
+    requires { ⌜ Framing frame (now cells) × (now order ≡ sweepOrder (now cells)) × (frame .timed ≡ false) ⌝ }
     requires { ⌜ (m ≤ 16) × (1 ≤ first) × (first ≤ m) × (length (now counters) ≡ m) ⌝ }
     ensures { λ r. ⌜ OnPlans (now (order .entry)) (now (cells .entry)) frame (λ s plain. AllServed (request s plain (now (order .entry)) m first budget tickets (now (counters .entry)) (now (table .entry))) r (now (counters .exit)) (now (table .exit))) ⌝ }
 {

@@ -8,21 +8,21 @@ use Rattle.plan.specs.Plan.{Typed}
 use Rattle.search.specs.Traversal.{rowOf}
 use Rattle.search.proofs.Paging.{page-budget}
 use Rattle.paging.specs.Cursors.{resume}
-use Rattle.paging.specs.Overlays.{overlay}
+use Rattle.paging.specs.Overlays.{Overlay}
 use Rattle.paging.specs.Pages.{room}
-use Rattle.paging.specs.Calls.{pageCall}
+use Rattle.paging.specs.Calls.{pageCallOn}
 use Rattle.paging.specs.Theorems.{Call, served}
+use Rattle.paging.proofs.Serving.{servedOn, firstOf, of-served}
 use Rattle.paging.proofs.Theorems.{demand3}
 
 module _ (x : Call) where
   -- "No call reports more trials than its budget."
   pub probes-few : served x .answer .probes ≤ x .budget
-  unfolding pageCall
-  probes-few = go (served x .cause) refl
+  probes-few = of-served (λ v. v .answer .probes ≤ x .budget) x (go _ (servedOn _ (firstOf x) x .cause))
     where
-      go : (n : ℕ) → served x .cause ≡ n → served x .answer .probes ≤ x .budget
-      go zero e = let o = overlay (x .shape) (x .cells) in rw e (page-budget rowOf (x .budget) (room o (x .table)) (listIn (resume o (x .ticket .cursor))))
-      go (suc n) e = rw e (omega arith)
+      go : {S : Type 0} (o : Overlay S) (n : ℕ) → pageCallOn o n (x .ticket) (x .budget) (x .table) .probes ≤ x .budget
+      go o zero = page-budget rowOf (x .budget) (room o (x .table)) (listIn (resume o (x .ticket .cursor)))
+      go o (suc n) = omega arith
 
   module _ (typed : Typed (x .shape)) where
     pub table-long : length (served x .after) ≡ length (x .table)

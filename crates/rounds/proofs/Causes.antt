@@ -17,10 +17,10 @@ use Rattle.sweep.specs.Sweep.{orderCause}
 use Rattle.sweep.proofs.Theorems.{order-not}
 use Rattle.paging.specs.declared.Ticket.{Ticket}
 use Rattle.paging.specs.Calls.{pageCause}
-use Rattle.paging.specs.Theorems.{CallCauses}
+use Rattle.paging.specs.Theorems.{PageCauses}
 use Rattle.paging.proofs.Theorems.{demand3}
 use Rattle.rounds.specs.Rounds.{Request, ticketOf, counterOf, ticketAt, counterAt, fits, clientsCause, roundCause}
-use Rattle.rounds.specs.Theorems.{Misfit, Names, Outdated, Lowest, RoundCauses}
+use Rattle.rounds.specs.Theorems.{callOf, Misfit, Names, Outdated, Lowest, RoundCauses}
 
 -- ---- 22
 -- what 22 lets through
@@ -170,18 +170,18 @@ module _ (q : Request) where
 
   -- ---- the clients' own
   module _ (typed : Typed (q .shape)) where
-    causes : (t : ℕ) → CallCauses (q .shape) (q .cells) (q .order) (ticketAt q t) (counterAt q t) (q .table) 0
-    causes t = demand3 .causes (q .shape) (q .cells) (q .order) (ticketAt q t) (counterAt q t) (q .table) 0 typed
+    causes : (t : ℕ) → PageCauses (orderCause (q .shape) (q .cells) (q .order)) (Names q t) (Outdated q t) (pageCause (q .shape) (q .cells) (q .order) (ticketAt q t) (counterAt q t))
+    causes t = demand3 .causes (callOf q t) 0 typed .page
 
     abbrev passes : (t : ℕ) → Type 0
     passes t = Names q t × (Outdated q t → ⊥)
 
     pass-of : (t : ℕ) → pageCause (q .shape) (q .cells) (q .order) (ticketAt q t) (counterAt q t) ≡ 0 → passes t
-    pass-of t e = let h = causes t .page .0 e in (h .1, h .2)
+    pass-of t e = let h = causes t .none .0 e in (h .1, h .2)
 
     module _ (passed : orderCause (q .shape) (q .cells) (q .order) ≡ 0) where
       of-pass : (t : ℕ) → passes t → pageCause (q .shape) (q .cells) (q .order) (ticketAt q t) (counterAt q t) ≡ 0
-      of-pass t h = causes t .page .1 (passed, h .0, h .1)
+      of-pass t h = causes t .none .1 (passed, h .0, h .1)
 
       -- the lowest client that is refused, by the cause c + 1
       abbrev first : ℕ → Type 0
@@ -198,7 +198,7 @@ module _ (q : Request) where
       only zero p x y e = omega arith
       only (suc n) p x y e =
           let f = first-refused (q .shape) (q .cells) (q .order) (q .tickets) (q .counters) 1 (q .clients) n e in
-          let z = causes (f .at) .page-others (suc n) p x y .0 (f .is) in
+          let z = causes (f .at) .others (suc n) p x y .0 (f .is) in
           omega arith
 
     pub round-causes : RoundCauses q

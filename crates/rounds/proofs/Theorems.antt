@@ -2,6 +2,7 @@
 use mathlib.Core.Path.{_≡_, refl, sym, ap, ap₂, _∙_, subst}
 use mathlib.Core.List.{List, [], _∷_, _++_, map, append-nil}
 use mathlib.Core.Logic.{_⊎_, inl, inr}
+use mathlib.Core.Option.{none}
 use mathlib.Core.Bool.{Bool, true, false, _&&_}
 use Prim.Native.Nat.{ℕ, zero, suc, _+_, _-_, _*_, _/_, _≤_, _<_}
 use native.Mathlib.Nat.{mul-div-cancel-left, le-div-iff-mul-le}
@@ -84,7 +85,7 @@ module _ (q : Request) (typed : Typed (q .shape)) (e : roundCause q ≡ 0) where
   -- no page call does more than it is offered
   few : (t b : ℕ) → probesOf q t b ≤ b
   unfolding probesOf
-  few t b = probes-few (record { shape = q .shape; cells = q .cells; order = q .order; ticket = ticketAt q t; counter = counterAt q t; budget = b; table = partAt q t })
+  few t b = probes-few (record { shape = q .shape; cells = q .cells; windows = none; order = q .order; ticket = ticketAt q t; counter = counterAt q t; budget = b; table = partAt q t })
 
   -- ---- turns
   left : ℕ → ℕ
@@ -163,7 +164,7 @@ module _ (q : Request) (typed : Typed (q .shape)) (e : roundCause q ≡ 0) where
     cut = cut t;
     inside = parts-within (q .shape .k) (q .clients) (length (q .table)) t b;
     share = share (demand3 .page (callOf q t) typed passes .2 .stops);
-    alone = λ x shape cells order ticket counter budget long. alone x shape cells order ticket counter budget long;
+    alone = alone;
   }
     where
       passes : served (callOf q t) .cause ≡ 0
@@ -174,10 +175,10 @@ module _ (q : Request) (typed : Typed (q .shape)) (e : roundCause q ≡ 0) where
       share (inr (inl h)) = inr (inl (ap (λ (p : Page). p .stop) (page-of t a b) ∙ h))
       share (inr (inr h)) = inr (inr (omega (arith, ap (λ (p : Page). p .probes) (page-of t a b), demand3 .page (callOf q t) typed passes .2 .spent .0 h .2, its-share t a b)))
 
-      alone : (x : Call) → x .shape ≡ q .shape → x .cells ≡ q .cells → x .order ≡ q .order → x .ticket ≡ ticketAt q t → x .counter ≡ counterAt q t → x .budget ≡ budgetAt q t → length (x .table) ≡ length (partAt q t)
+      alone : (x : Call) → x .shape ≡ q .shape → x .cells ≡ q .cells → x .windows ≡ none → x .order ≡ q .order → x .ticket ≡ ticketAt q t → x .counter ≡ counterAt q t → x .budget ≡ budgetAt q t → length (x .table) ≡ length (partAt q t)
           → (served x .answer ≡ pageOf q t) × (rowsIn (q .shape .k) (pageOf q t .rows) (served x .after) ≡ rowsIn (q .shape .k) (pageOf q t .rows) (served (callOf q t) .after))
-      alone x shape cells order ticket counter budget long =
-          let y : x ≡ other (callOf q t) (x .table) long = λ i. record { shape = shape i; cells = cells i; order = order i; ticket = ticket i; counter = counter i; budget = budget i; table = x .table } in
+      alone x shape cells windows order ticket counter budget long =
+          let y : x ≡ other (callOf q t) (x .table) long = λ i. record { shape = shape i; cells = cells i; windows = windows i; order = order i; ticket = ticket i; counter = counter i; budget = budget i; table = x .table } in
           let p = page-of t a b in
           let r = rows-alone (callOf q t) (x .table) long typed passes in
           subst (λ (z : Call). (served z .answer ≡ pageOf q t) × (rowsIn (q .shape .k) (pageOf q t .rows) (served z .after) ≡ rowsIn (q .shape .k) (pageOf q t .rows) (served (callOf q t) .after))) (sym y)
@@ -231,11 +232,11 @@ module _ (s : Shape) (cells : List ℤ) (t : ℕ) where
 
   module _ (low : 1 ≤ t) where
     -- the page calls of a client are a list of page calls in one run
-    one-run : {r : Course} {qs : List Request} → RunOf s cells t r qs → OneRun s cells r (callsOf t qs)
+    one-run : {r : Course} {qs : List Request} → RunOf s cells t r qs → OneRun none s cells r (callsOf t qs)
     one-run end = run-end
     one-run (passed-over {q = q} n h) = rw (not-serving q n) (one-run h)
     one-run (in-turn {q = q} e l shape same ticket counter h) =
-        rw (serving q e l) (run-accepted (accepted-is q e .each-passes t low l) shape same ticket counter (one-run h))
+        rw (serving q e l) (run-accepted (accepted-is q e .each-passes t low l) refl shape same ticket counter (one-run h))
 
     -- an accepted round that serves it allows a trial and a row
     allows : (q : Request) → Typed (q .shape) → (e : roundCause q ≡ 0) → t ≤ q .clients → Roomy t q → (0 < budgetAt q t) × (0 < room (overlay (q .shape) (q .cells)) (partAt q t))
@@ -243,7 +244,7 @@ module _ (s : Shape) (cells : List ℤ) (t : ℕ) where
         let a = accepted-is q e in
         let h = roomy e l in
         let b : 1 ≤ q .budget / q .clients = le-div-iff-mul-le {k = q .clients} {x = 1} {y = q .budget} (omega (arith, a .fit .some)) .1 (omega arith) in
-        let frame = plans .frames (q .shape) (q .cells) (sound-of (q .shape) (q .cells) (q .order) typed (a .passed)) in
+        let frame = plans .frames (q .shape) (q .cells) (sound-of none (q .shape) (q .cells) (q .order) typed (a .passed)) in
         let many : length (sizesOf (q .shape)) ≡ q .shape .k = frame .2 in
         let more : 2 ≤ q .shape .k = omega (arith, frame .0 .some) in
         let part = its-part q typed e t low l in
@@ -280,7 +281,7 @@ module _ (s : Shape) (cells : List ℤ) (t : ℕ) where
 
     list-holds : (order counter : List ℕ) (qs : List Request) → Typed s → freshCause s cells order counter ≡ 0 → RunOf s cells t (begun s cells order counter) qs → ListHolds s cells (begun s cells order counter) t qs
     list-holds order counter qs typed fresh h =
-        let d = demand3 .paging s cells order counter (callsOf t qs) typed fresh (one-run h) in
+        let d = demand3 .paging none s cells order counter (callsOf t qs) typed fresh (one-run h) in
         record { paging = d .0; tickets = d .1; alone = one-run h; pages = pages-are-theirs typed h; rows = rows-are-theirs typed h; ends = λ roomy n. d .0 .bound (omega (arith, all-allow typed h roomy)) }
 
 pub rounds-hold : RoundsHold

@@ -3,6 +3,7 @@ use mathlib.Core.Path.{_≡_}
 use mathlib.Core.List.{List, [], _∷_, _++_, map}
 use mathlib.Core.Bool.{Bool, cond, _&&_}
 use mathlib.Core.Logic.{_↔_, _⊎_}
+use mathlib.Core.Option.{none}
 use Prim.Native.Nat.{ℕ, suc, _+_, _-_, _*_, _/_, _≤_, _<_}
 use lib.IntN.{ℤ}
 use lib.Dec.{eqb, leb}
@@ -29,7 +30,7 @@ Misfit q =
 
 -- what 6 and 18 ask of client t (paging's specs/Theorems.antt)
 abbrev pub Names : Request → (t : ℕ) → Type 0
-Names q t = Good (sizesOf (q .shape)) (grown (q .shape) (q .cells)) (ticketAt q t .cursor)
+Names q t = Good none (sizesOf (q .shape)) (grown (q .shape) (q .cells)) (ticketAt q t .cursor)
 
 abbrev pub Outdated : Request → (t : ℕ) → Type 0
 Outdated q t = Stale (ticketAt q t .count) (counterAt q t)
@@ -57,10 +58,10 @@ pub record RoundRefused (q : Request) (n : ℕ) : Type 0 where
   pub table : roundTable q ≡ q .table
 
 -- ---- one accepted round
--- the page call that client t makes
+-- the page call that client t makes; 02, Q-12: it has no timed form
 abbrev pub callOf : Request → (t : ℕ) → Call
 callOf q t =
-    record { shape = q .shape; cells = q .cells; order = q .order; ticket = ticketAt q t; counter = counterAt q t; budget = budgetAt q t; table = partAt q t }
+    record { shape = q .shape; cells = q .cells; windows = none; order = q .order; ticket = ticketAt q t; counter = counterAt q t; budget = budgetAt q t; table = partAt q t }
 
 -- the page that client t got
 abbrev pub pageOf : Request → (t : ℕ) → Page
@@ -99,7 +100,7 @@ pub record ClientHolds (q : Request) (t : ℕ) : Type 0 where
   pub share : (pageOf q t .stop ≡ Ended) ⊎ ((pageOf q t .stop ≡ Full) ⊎ (q .budget / q .clients ≤ pageOf q t .probes))
   -- "Each run's rows and trials are those it would have had alone with the same budgets and part sizes": of any page call with this plan, ticket and record, this
   -- budget, and a table as long as the part
-  pub alone : (x : Call) → x .shape ≡ q .shape → x .cells ≡ q .cells → x .order ≡ q .order → x .ticket ≡ ticketAt q t → x .counter ≡ counterAt q t → x .budget ≡ budgetAt q t → length (x .table) ≡ length (partAt q t)
+  pub alone : (x : Call) → x .shape ≡ q .shape → x .cells ≡ q .cells → x .windows ≡ none → x .order ≡ q .order → x .ticket ≡ ticketAt q t → x .counter ≡ counterAt q t → x .budget ≡ budgetAt q t → length (x .table) ≡ length (partAt q t)
       → (served x .answer ≡ pageOf q t) × (rowsIn (q .shape .k) (pageOf q t .rows) (served x .after) ≡ rowsIn (q .shape .k) (pageOf q t .rows) (served (callOf q t) .after))
 
 pub record RoundHolds (q : Request) : Type 0 where
@@ -160,7 +161,7 @@ pub record ListHolds (s : Shape) (cells : List ℤ) (r : Course) (t : ℕ) (qs :
   pub tickets : TicketsHold r (map served (callsOf t qs))
   -- "Each run's rows and trials are those it would have had alone with the same budgets and part sizes": its page calls, made alone one after the other, are such a
   -- list, and what they answer and put out is what the rounds gave it
-  pub alone : OneRun s cells r (callsOf t qs)
+  pub alone : OneRun none s cells r (callsOf t qs)
   pub pages : pagesOf t qs ≡ map (λ x. x .answer) (map served (callsOf t qs))
   pub rows : rowsGot t qs ≡ handed (s .k) (map served (callsOf t qs))
   -- "Where B ≥ m and every part takes a row, each tablet's run ends within its walk's length plus one accepted rounds that serve it, whichever way the others go."

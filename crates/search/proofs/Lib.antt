@@ -8,3 +8,4 @@ pub mod Stands
 pub mod Zipper
 pub mod Positions
 pub mod Turns
+pub mod Narrowing

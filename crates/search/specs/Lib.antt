@@ -4,3 +4,4 @@ pub mod Paging
 pub mod Zipper
 pub mod Positions
 pub mod Turns
+pub mod Narrowing

@@ -1,6 +1,7 @@
 -- What accepted whole runs hand out and return is the table and the sum of its areas, so the laws of tables are laws of runs.
 use mathlib.Core.Path.{_≡_, refl, sym, ap, ap₂, _∙_}
 use mathlib.Core.List.{List, [], map}
+use mathlib.Core.Option.{none}
 use Prim.Native.Nat.{ℕ, _+_, _*_, _/_, _≤_, min}
 use native.Mathlib.Omega.{arith}
 use lib.ListN.{length, length-append, length-map}
@@ -9,29 +10,29 @@ use Rattle.sweep.specs.Sweep.{orderCause}
 use Rattle.sweep.proofs.Theorems.{sweep-holding}
 use Rattle.ground.specs.Union.{unionOf, grounds}
 use Rattle.ground.proofs.Theorems.{union-holds}
-use Rattle.paging.specs.declared.Ticket.{Ticket}
 use Rattle.paging.specs.Overlays.{overlay}
 use Rattle.paging.specs.Cursors.{endedCursor}
 use Rattle.paging.specs.Pages.{room}
 use Rattle.paging.specs.Calls.{runCause, runCall, runTable, runValues}
-use Rattle.paging.specs.Theorems.{RunHolds}
+use Rattle.paging.specs.Theorems.{Call, RunHolds}
 use Rattle.paging.proofs.Theorems.{demand3}
 use Rattle.symmetry.specs.Plans.{Plan, firstPart, secondPart, countedOn}
 use Rattle.symmetry.specs.Theorems.{Accepted, layersIn, tableIn, areasIn, Rearranged, Cut, Lent, Ran, answer, handedOut, areaSum, groundSum, lentTo, RunsRearranged, RunsCut}
 use Rattle.symmetry.proofs.Rows.{set-count}
 use Rattle.symmetry.proofs.Rearranging.{same-grounds}
 
--- any ticket, where only the run's causes are asked
-none-due : Ticket
-none-due = record { cursor = endedCursor; count = 0 }
+-- a call with these, of which only the run's causes are asked
+abbrev lending : Plan → (order table : List ℕ) → Call
+lending p order table =
+    record { shape = p .shape; cells = p .cells; windows = none; order = order; ticket = record { cursor = endedCursor; count = 0 }; counter = []; budget = 0; table = table }
 
 module _ (p : Plan) (l : Lent) (r : Ran p l) where
   -- the order is right, the table takes all rows, and the work buffer has two cells for each
   passed : (orderCause (p .shape) (p .cells) (l .order) ≡ 0) × (length (tableIn p) ≤ room (overlay (p .shape) (p .cells)) (l .table)) × (2 * length (tableIn p) ≤ l .work)
-  passed = demand3 .causes (p .shape) (p .cells) (l .order) none-due [] (l .table) (l .work) (r .0) .run .0 (r .1)
+  passed = demand3 .causes (lending p (l .order) (l .table)) (l .work) (r .0) .run .none .0 (r .1)
 
-  holds : RunHolds (p .shape) (p .cells) (l .table) (runCause (p .shape) (p .cells) (l .order) (l .table) (l .work)) (runValues (runCall (p .shape) (p .cells) (l .order) (l .table) (l .work))) (runTable (p .shape) (p .cells) (l .order) (l .table) (l .work))
-  holds = demand3 .run (p .shape) (p .cells) (l .order) (l .table) (l .work) (r .0) (passed .0) (passed .2)
+  holds : RunHolds (p .shape) (p .cells) (overlay (p .shape) (p .cells)) (l .table) (runCause (p .shape) (p .cells) (l .order) (l .table) (l .work)) (runValues (runCall (p .shape) (p .cells) (l .order) (l .table) (l .work))) (runTable (p .shape) (p .cells) (l .order) (l .table) (l .work))
+  holds = demand3 .run none (p .shape) (p .cells) (l .order) (l .table) (l .work) (r .0) (passed .0) (passed .2)
 
   run-rows : handedOut p l ≡ tableIn p
   run-rows = holds .rows (r .1)
@@ -57,7 +58,7 @@ room-k p q t a b e =
 runs-too : (p q : Plan) (l : Lent) → Ran p l → Accepted q → q .shape .k ≡ p .shape .k → length (tableIn q) ≤ length (tableIn p) → Ran q (lentTo q l)
 runs-too p q l r b e h = (
   b .typed,
-  demand3 .causes (q .shape) (q .cells) (lentTo q l .order) none-due [] (l .table) (l .work) (b .typed) .run .1 (
+  demand3 .causes (lending q (lentTo q l .order) (l .table)) (l .work) (b .typed) .run .none .1 (
     sweep-holding .order (q .shape) (q .cells) (lentTo q l .order) .none .1 (b .passed, refl),
     omega (arith, passed p l r .1, room-k p q (l .table) (run-accepted p l r) b e),
     omega (arith, passed p l r .2),

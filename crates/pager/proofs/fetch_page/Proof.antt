@@ -1,16 +1,16 @@
--- `pager::fetch_page`: a refusal by the checks of the plan, or the page over its cells as drawn or grown.
+-- `pager::fetch_page`: a refusal by the checks of the plan, or the page.
 use borrow.Author.Needs.{needs}
+use mathlib.Core.Bool.{false}
+use mathlib.Core.List.{[], _∷_}
 use mathlib.Core.Path.{sym, _∙_}
-use Rattle.plan.specs.Plan.{Typed, Sound}
-use Rattle.plan.proofs.Growing.{drawn-framed, drawn-grown}
+use Rattle.plan.specs.Plan.{Typed}
 use Rattle.sweep.proofs.Orders.{checked-plan}
-use Rattle.pager.proofs.Calls.{page-refused}
+use Rattle.pager.proofs.Calls.{no-hours, page-refused, untimed-page}
 use Rattle.pager.proofs.fetch_page.Statement.{statement}
 use Rattle.pager.proofs.fetch_page.Tie as tie
 
--- the plan is sound behind its checks
-sound : (c : tie.Else1) → let a = c .before .before .before .before .before .args in Sound (a .shape) (a .cells .now)
-sound c = record { typed = record { sizes = search needs; margins = search needs }; passed = sym (c .before .plan-cause .ensures) ∙ c .if1 .left }
+typed : (c : tie.Start) → Typed (c .args .shape)
+typed c = record { sizes = search needs; margins = search needs }
 
 plan-cause-requires : tie.Need-plan-cause-requires
 plan-cause-requires c κs = search needs
@@ -24,16 +24,18 @@ returns c =
     let p : tie.After-plan-cause = search needs in
     let t : tie.Then1 = search needs in
     let a = s .args in
-    page-refused (a .shape) (a .cells .now) (a .order .now) (a .ticket) (a .counter .now) (a .budget) (a .table .now) _ (checked-plan _ _ _ _ (p .plan-cause .ensures) (t .if1 .taken)) (t .if1 .taken) _ (c .refused-page .ensures)
+    untimed-page (a .shape) (a .cells .now) [] (a .order .now) (a .ticket) (a .counter .now) (a .budget) (a .table .now) _ _ _
+    (page-refused false (a .shape) (a .cells .now) [] (a .order .now) (a .ticket) (a .counter .now) (a .budget) (a .table .now) _ (checked-plan _ _ _ _ (p .plan-cause .ensures) (t .if1 .taken)) (t .if1 .taken) _ (c .refused-page .ensures))
 
-is-drawn-requires : tie.Need-is-drawn-requires
-is-drawn-requires c κs = search needs
+slice-aggregate-page-on : tie.Need-slice-aggregate-page-on
+slice-aggregate-page-on c = search needs
 
-page-over-requires : tie.Need-page-over-requires
-page-over-requires c κs =
+page-on-requires : tie.Need-page-on-requires
+page-on-requires c κs =
     let s : tie.Start = search needs in
+    let p : tie.After-plan-cause = search needs in
     let e : tie.Else1 = search needs in
-    drawn-framed (s .args .shape) (s .args .cells .now) (sound e)
+    (record { typed = typed s; passed = sym (p .plan-cause .ensures) ∙ e .if1 .left }, no-hours (s .args .shape) _)
 
 same-length : tie.Need-same-length
 same-length c = search needs
@@ -44,24 +46,9 @@ same-length-2 c = search needs
 returns-2 : tie.Need-returns-2
 returns-2 c =
     let s : tie.Start = search needs in
-    let e : tie.Else1 = search needs in
-    let d : tie.After-is-drawn = search needs in
-    let t : tie.Then2 = search needs in
-    let o : tie.After-page-over = search needs in
+    let o : tie.After-page-on = search needs in
     let a = s .args in
-    o .page-over .ensures (a .cells .now) (sound e) (drawn-grown (a .shape) (a .cells .now) (sound e) (sym (d .is-drawn .ensures) ∙ t .if2 .taken))
-
-page-grown-requires : tie.Need-page-grown-requires
-page-grown-requires c κs = search needs
-
-same-length-3 : tie.Need-same-length-3
-same-length-3 c = search needs
-
-same-length-4 : tie.Need-same-length-4
-same-length-4 c = search needs
-
-returns-3 : tie.Need-returns-3
-returns-3 c = search needs
+    untimed-page (a .shape) (a .cells .now) (0 ∷ []) (a .order .now) (a .ticket) (a .counter .now) (a .budget) (a .table .now) _ _ _ (o .page-on .ensures)
 
 pub fetch-page-spec : {M : Type 1} → statement M
 fetch-page-spec =
@@ -70,12 +57,8 @@ fetch-page-spec =
     plan-cause-requires
     refused-page-requires
     returns
-    is-drawn-requires
-    page-over-requires
+    slice-aggregate-page-on
+    page-on-requires
     same-length
     same-length-2
-    returns-2
-    page-grown-requires
-    same-length-3
-    same-length-4
-    returns-3)
+    returns-2)

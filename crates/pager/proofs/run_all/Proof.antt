@@ -1,16 +1,16 @@
--- `pager::run_all`: a refusal by the checks of the plan, or the run over its cells as drawn or grown.
+-- `pager::run_all`: a refusal by the checks of the plan, or the run.
 use borrow.Author.Needs.{needs}
+use mathlib.Core.Bool.{false}
+use mathlib.Core.List.{[], _∷_}
 use mathlib.Core.Path.{sym, _∙_}
-use Rattle.plan.specs.Plan.{Typed, Sound}
-use Rattle.plan.proofs.Growing.{drawn-framed, drawn-grown}
+use Rattle.plan.specs.Plan.{Typed}
 use Rattle.sweep.proofs.Orders.{checked-plan}
-use Rattle.pager.proofs.Calls.{run-refused}
+use Rattle.pager.proofs.Calls.{no-hours, run-refused, untimed-run}
 use Rattle.pager.proofs.run_all.Statement.{statement}
 use Rattle.pager.proofs.run_all.Tie as tie
 
--- the plan is sound behind its checks
-sound : (c : tie.Else1) → let a = c .before .before .before .before .args in Sound (a .shape) (a .cells .now)
-sound c = record { typed = record { sizes = search needs; margins = search needs }; passed = sym (c .before .plan-cause .ensures) ∙ c .if1 .left }
+typed : (c : tie.Start) → Typed (c .args .shape)
+typed c = record { sizes = search needs; margins = search needs }
 
 plan-cause-requires : tie.Need-plan-cause-requires
 plan-cause-requires c κs = search needs
@@ -21,16 +21,18 @@ returns c =
     let p : tie.After-plan-cause = search needs in
     let t : tie.Then1 = search needs in
     let a = s .args in
-    run-refused (a .shape) (a .cells .now) (a .order .now) (a .table .now) (a .work .now) _ (checked-plan _ _ _ _ (p .plan-cause .ensures) (t .if1 .taken)) (t .if1 .taken)
+    untimed-run (a .shape) (a .cells .now) [] (a .order .now) (a .table .now) (a .work .now) _ _ _
+    (run-refused false (a .shape) (a .cells .now) [] (a .order .now) (a .table .now) (a .work .now) _ (checked-plan _ _ _ _ (p .plan-cause .ensures) (t .if1 .taken)) (t .if1 .taken))
 
-is-drawn-requires : tie.Need-is-drawn-requires
-is-drawn-requires c κs = search needs
+slice-aggregate-run-on : tie.Need-slice-aggregate-run-on
+slice-aggregate-run-on c = search needs
 
-run-over-requires : tie.Need-run-over-requires
-run-over-requires c κs =
+run-on-requires : tie.Need-run-on-requires
+run-on-requires c κs =
     let s : tie.Start = search needs in
+    let p : tie.After-plan-cause = search needs in
     let e : tie.Else1 = search needs in
-    drawn-framed (s .args .shape) (s .args .cells .now) (sound e)
+    (record { typed = typed s; passed = sym (p .plan-cause .ensures) ∙ e .if1 .left }, no-hours (s .args .shape) _)
 
 same-length : tie.Need-same-length
 same-length c = search needs
@@ -41,24 +43,9 @@ same-length-2 c = search needs
 returns-2 : tie.Need-returns-2
 returns-2 c =
     let s : tie.Start = search needs in
-    let e : tie.Else1 = search needs in
-    let d : tie.After-is-drawn = search needs in
-    let t : tie.Then2 = search needs in
-    let o : tie.After-run-over = search needs in
+    let o : tie.After-run-on = search needs in
     let a = s .args in
-    o .run-over .ensures (a .cells .now) (sound e) (drawn-grown (a .shape) (a .cells .now) (sound e) (sym (d .is-drawn .ensures) ∙ t .if2 .taken))
-
-run-grown-requires : tie.Need-run-grown-requires
-run-grown-requires c κs = search needs
-
-same-length-3 : tie.Need-same-length-3
-same-length-3 c = search needs
-
-same-length-4 : tie.Need-same-length-4
-same-length-4 c = search needs
-
-returns-3 : tie.Need-returns-3
-returns-3 c = search needs
+    untimed-run (a .shape) (a .cells .now) (0 ∷ []) (a .order .now) (a .table .now) (a .work .now) _ _ _ (o .run-on .ensures)
 
 pub run-all-spec : {M : Type 1} → statement M
 run-all-spec =
@@ -66,12 +53,8 @@ run-all-spec =
     (tie.spec
     plan-cause-requires
     returns
-    is-drawn-requires
-    run-over-requires
+    slice-aggregate-run-on
+    run-on-requires
     same-length
     same-length-2
-    returns-2
-    run-grown-requires
-    same-length-3
-    same-length-4
-    returns-3)
+    returns-2)

@@ -30,20 +30,20 @@ array-copy-out-ticket c = omega arith
 add-next : tie.Need-add-next Inv-loop μ-loop
 add-next c = omega arith
 
-mul-ticket-cause : tie.Need-mul-ticket-cause Inv-loop μ-loop
-mul-ticket-cause c = omega arith
+mul-plain-cause : tie.Need-mul-plain-cause Inv-loop μ-loop
+mul-plain-cause c = omega arith
 
-sub-ticket-cause : tie.Need-sub-ticket-cause Inv-loop μ-loop
-sub-ticket-cause c = omega arith
+sub-plain-cause : tie.Need-sub-plain-cause Inv-loop μ-loop
+sub-plain-cause c = omega arith
 
-part-ticket-cause-start : tie.Need-part-ticket-cause-start Inv-loop μ-loop
-part-ticket-cause-start c = search needs
+part-plain-cause-start : tie.Need-part-plain-cause-start Inv-loop μ-loop
+part-plain-cause-start c = search needs
 
-part-ticket-cause-end : tie.Need-part-ticket-cause-end Inv-loop μ-loop
-part-ticket-cause-end c = search needs
+part-plain-cause-end : tie.Need-part-plain-cause-end Inv-loop μ-loop
+part-plain-cause-end c = search needs
 
-ticket-cause-requires : tie.Need-ticket-cause-requires Inv-loop μ-loop
-ticket-cause-requires c κs = search needs
+plain-cause-requires : tie.Need-plain-cause-requires Inv-loop μ-loop
+plain-cause-requires c κs = search needs
 
 returns : tie.Need-returns Inv-loop μ-loop
 returns c =
@@ -52,7 +52,7 @@ returns c =
     let a = s .args in
     let i = l .loop .i in
     let e : i + 1 - i ≡ 1 = omega arith in
-    passing-stops (a .order .now) (a .cells .now) (a .frame) (a .m) (a .t5) (a .counters .now) i (l .loop .inv) (c .before .before .before .before .loop-test .taken) (sixteen s) (s .pre .1 .0) _ (i + 1 - i) e _ (c .before .ticket-cause .ensures) (c .if1 .taken)
+    passing-stops (a .order .now) (a .cells .now) (a .frame) (a .m) (a .t5) (a .counters .now) i (l .loop .inv) (c .before .before .before .before .loop-test .taken) (sixteen s) (s .pre .1 .0) _ (i + 1 - i) e _ (c .before .plain-cause .ensures) (c .if1 .taken)
 
 loop-less : tie.Need-loop-less Inv-loop μ-loop
 loop-less c = omega arith
@@ -64,7 +64,7 @@ loop-again c =
     let a = s .args in
     let i = l .loop .i in
     let e : i + 1 - i ≡ 1 = omega arith in
-    passing-more (a .order .now) (a .cells .now) (a .frame) (a .m) (a .t5) (a .counters .now) i (l .loop .inv) (c .before .before .before .before .loop-test .taken) (sixteen s) (s .pre .1 .0) _ (i + 1 - i) e _ (c .before .ticket-cause .ensures) (c .if1 .left)
+    passing-more (a .order .now) (a .cells .now) (a .frame) (a .m) (a .t5) (a .counters .now) i (l .loop .inv) (c .before .before .before .before .loop-test .taken) (sixteen s) (s .pre .1 .0) _ (i + 1 - i) e _ (c .before .plain-cause .ensures) (c .if1 .left)
 
 returns-2 : tie.Need-returns-2 Inv-loop μ-loop
 returns-2 c = let a = c .before .before .before .before .args in passing-all (a .order .now) (a .cells .now) (a .frame) (a .m) (a .t5) (a .counters .now) _ (c .before .loop .inv) (c .loop-test .left)
@@ -79,11 +79,11 @@ clients-cause-spec =
     mul-ticket
     array-copy-out-ticket
     add-next
-    mul-ticket-cause
-    sub-ticket-cause
-    part-ticket-cause-start
-    part-ticket-cause-end
-    ticket-cause-requires
+    mul-plain-cause
+    sub-plain-cause
+    part-plain-cause-start
+    part-plain-cause-end
+    plain-cause-requires
     returns
     loop-less
     loop-again

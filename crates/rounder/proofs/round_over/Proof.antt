@@ -1,10 +1,12 @@
 -- `rounder::round_over`: a refusal by 5, or the round on the plan.
 use borrow.Author.Needs.{needs}
+use mathlib.Core.Bool.{false}
+use mathlib.Core.List.{[]}
 use borrow.Author.Tests.{not-true, not-false}
 use native.Mathlib.Omega.{arith}
 use Rattle.plan.specs.Plan.{Typed}
 use Rattle.slots.proofs.Frames.{framing-over}
-use Rattle.pager.proofs.Calls.{ordered, misordered, admitted}
+use Rattle.pager.proofs.Calls.{ordered, no-hours, misordered, admitted}
 use Rattle.rounds.specs.Rounds.{request}
 use Rattle.rounder.proofs.Answers.{round-refused, by-order, opens}
 use Rattle.rounder.proofs.round_over.Statement.{statement}
@@ -26,7 +28,7 @@ returns c cells h is =
     let t : tie.Then1 = search needs in
     let a = s .args in
     let q = (request (a .shape) cells (a .order .now) (a .m) (a .first) (a .budget) (a .tickets) (a .counters .now) (a .table .now)) in
-    round-refused q 5 (by-order q 5 (misordered (a .shape) (a .order .now) (a .grown .now) (o .is-order .ensures) (not-true _ (t .if1 .taken)) cells h is) (λ e. omega arith)) (λ e. omega arith) _ (c .refused-round .ensures)
+    round-refused q 5 (by-order q 5 (misordered false (a .shape) [] (a .order .now) (no-hours (a .shape) []) (a .grown .now) (o .is-order .ensures) (not-true _ (t .if1 .taken)) cells h is) (λ e. omega arith)) (λ e. omega arith) _ (c .refused-round .ensures)
 
 frame-of-requires : tie.Need-frame-of-requires
 frame-of-requires c κs = let s : tie.Start = search needs in (omega (arith, typed s .sizes, s .pre .0), s .pre .1 .small)
@@ -38,7 +40,7 @@ round-on-requires c κs =
     let e : tie.Else1 = search needs in
     let f : tie.After-frame-of = search needs in
     let a = s .args in
-    (framing-over (a .shape) (a .grown .now) (f .frame-of .result) (typed s) (s .pre) (f .frame-of .ensures), ordered (a .order .now) (a .grown .now) (o .is-order .ensures) (not-false _ (e .if1 .left)))
+    (framing-over (a .shape) (a .grown .now) (f .frame-of .result) false (typed s) (s .pre) (f .frame-of .ensures), ordered (a .order .now) (a .grown .now) (o .is-order .ensures) (not-false _ (e .if1 .left)), f .frame-of .ensures .is-timed)
 
 same-length : tie.Need-same-length
 same-length c = search needs
@@ -56,7 +58,7 @@ returns-2 c cells h is =
     let a = s .args in
     r .round-on .ensures (a .shape) cells
     (opens (a .shape) cells (a .order .now) (a .grown .now) (f .frame-of .result)
-    (admitted (a .shape) (a .order .now) (a .grown .now) (o .is-order .ensures) (not-false _ (e .if1 .left)) (f .frame-of .result) (f .frame-of .ensures) cells h is) (f .frame-of .ensures))
+    (admitted false (a .shape) [] (a .order .now) (no-hours (a .shape) []) (a .grown .now) (o .is-order .ensures) (not-false _ (e .if1 .left)) (f .frame-of .result) (f .frame-of .ensures) cells h is) (f .frame-of .ensures))
 
 pub round-over-spec : {M : Type 1} → statement M
 round-over-spec =

@@ -1,7 +1,8 @@
 //! The calls of the C interface that `Overlay` does not have, and cells that are no ticket.
 
-use crate::ffi::{cells_of, fetch_page, order_cause, plan_cause, round_in_cells, Library};
+use crate::ffi::{cells_of, fetch_page, order_cause, plan_cause, round_in_cells, timed_page, Library};
 use overlay_tests::call::{cells_u32, Plan};
+use overlay_tests::hours::{base, windows_for, WINDOW_STYLES};
 use overlay_tests::overlay::{Overlay, Ticket};
 use overlay_tests::reference::{plan_fault, REFERENCE};
 use overlay_tests::rounds::Lent;
@@ -132,6 +133,26 @@ fn round_cells(seeds: &mut Seeds, plan: &Plan) -> Result<u64, String> {
     Ok(cases)
 }
 
+/// The flag of a timed page's ticket that is neither 0 nor 1 is refused as 6, and all cells stay what they were; the count stands in its last two.
+fn timed_cells(seeds: &mut Seeds, plan: &Plan) -> Result<u64, String> {
+    let style = seeds.below(WINDOW_STYLES);
+    let lent = base(plan, &windows_for(seeds, plan.cells.len() / 4, style));
+    let mut given = cells_of(&lent.ticket);
+    given[0] = seeds.pick(&[2, 3, 256, u32::MAX]);
+    let (mut left, mut after) = (lent.clone(), given);
+    let told = timed_page(&mut left, &mut after);
+    let mut cases = expect("timed flags", plan, (told, after, left), ((6, [0; 4]), given, lent.clone()))?;
+    let count = seeds.pick(&[5, (1 << 32) - 1, 7 << 32, (1 << 57) - 1]);
+    let mut given = cells_of(&lent.ticket.after(count));
+    let mut left = lent;
+    left.record = vec![count];
+    let (number, answer) = timed_page(&mut left, &mut given);
+    let done = count + answer[2];
+    let due = (0, [(done % (1 << 32)) as u32, (done / (1 << 32)) as u32], vec![done]);
+    cases += expect("timed counts", plan, (number, [given[10], given[11]], left.record), due)?;
+    Ok(cases)
+}
+
 /// The order made for a plan is told to be its order.
 fn made_orders(plan: &Plan) -> Result<u64, String> {
     let mut made = cells_u32(plan.cells.len() / 4);
@@ -153,6 +174,7 @@ pub fn compare_extras() -> Result<u64, String> {
         cases += flags(&mut seeds, &plan)?;
         cases += counts(&mut seeds, &plan)?;
         cases += round_cells(&mut seeds, &plan)?;
+        cases += timed_cells(&mut seeds, &plan)?;
         cases += made_orders(&plan)?;
     }
     Ok(cases)

@@ -1,6 +1,7 @@
 //! The library under test through its C interface (include/overlay.h), behind safe functions.
 
 use overlay_tests::crossings::{ClassTold, Crossings, Report};
+use overlay_tests::hours::{self, HoursTold, Timed};
 use overlay_tests::nearest::{Near, NearestTold};
 use overlay_tests::overlay::{
     CommonTold, Overlay, Page, PairTold, Reading, RowTold, Run, Shape, Stop, Ticket, Writing,
@@ -101,6 +102,52 @@ extern "C" {
         table: *mut u32,
         table_length: usize,
         answer: *mut u64,
+    ) -> u32;
+    fn overlay_timed_page(
+        k: u32,
+        sizes: *const u32,
+        margins: *const u32,
+        cells: *const i32,
+        cells_length: usize,
+        hours: *const u32,
+        hours_length: usize,
+        order: *const u32,
+        order_length: usize,
+        ticket: *mut u32,
+        counter: *mut u64,
+        counter_length: usize,
+        budget: u32,
+        table: *mut u32,
+        table_length: usize,
+        answer: *mut u64,
+    ) -> u32;
+    fn overlay_timed_run(
+        k: u32,
+        sizes: *const u32,
+        margins: *const u32,
+        cells: *const i32,
+        cells_length: usize,
+        hours: *const u32,
+        hours_length: usize,
+        order: *const u32,
+        order_length: usize,
+        table: *mut u32,
+        table_length: usize,
+        work: *mut i32,
+        work_length: usize,
+        answer: *mut u64,
+    ) -> u32;
+    fn overlay_row_hours(
+        k: u32,
+        sizes: *const u32,
+        margins: *const u32,
+        cells: *const i32,
+        cells_length: usize,
+        hours: *const u32,
+        hours_length: usize,
+        places: *const u32,
+        places_length: usize,
+        answer: *mut u32,
     ) -> u32;
     fn overlay_round(
         k: u32,
@@ -305,6 +352,34 @@ pub fn fetch_page(
             record.as_mut_ptr(),
             record.len(),
             budget,
+            table.as_mut_ptr(),
+            table.len(),
+            answer.as_mut_ptr(),
+        )
+    };
+    (number, answer)
+}
+
+/// The timed page call on a ticket's cells, with all else from what is lent: the number and the answer.
+pub fn timed_page(lent: &mut hours::Lent, ticket: &mut Cells) -> (u32, [u64; 4]) {
+    let mut answer = [UNWRITTEN; 4];
+    let hours::Lent { plan, hours, order, record, budget, table, .. } = lent;
+    // SAFETY: every pointer comes from a reference, with its length; those written to are exclusive.
+    let number = unsafe {
+        overlay_timed_page(
+            plan.shape.k,
+            plan.shape.sizes.as_ptr(),
+            plan.shape.margins.as_ptr(),
+            plan.cells.as_ptr(),
+            plan.cells.len(),
+            hours.as_ptr(),
+            hours.len(),
+            order.as_ptr(),
+            order.len(),
+            ticket.as_mut_ptr(),
+            record.as_mut_ptr(),
+            record.len(),
+            *budget,
             table.as_mut_ptr(),
             table.len(),
             answer.as_mut_ptr(),
@@ -601,5 +676,70 @@ impl Crossings for Library {
             )
         };
         Report { run: run_of(number, answer), counts }
+    }
+}
+
+impl Timed for Library {
+    fn untimed(&self) -> &dyn Overlay {
+        self
+    }
+
+    fn page(&self, lent: &mut hours::Lent) -> Page {
+        let mut given = cells_of(&lent.ticket);
+        let (number, answer) = timed_page(lent, &mut given);
+        let [code, rows, trials, area] = answer;
+        Page {
+            stop: stop_of(number, code),
+            rows: small(rows),
+            trials: small(trials),
+            area,
+            ticket: ticket_in(&given),
+        }
+    }
+
+    fn run(&self, lent: &mut hours::Lent) -> Run {
+        let mut answer = [UNWRITTEN; 4];
+        let hours::Lent { plan, hours, order, table, work, .. } = lent;
+        // SAFETY: every pointer comes from a reference, with its length; those written to are exclusive.
+        let number = unsafe {
+            overlay_timed_run(
+                plan.shape.k,
+                plan.shape.sizes.as_ptr(),
+                plan.shape.margins.as_ptr(),
+                plan.cells.as_ptr(),
+                plan.cells.len(),
+                hours.as_ptr(),
+                hours.len(),
+                order.as_ptr(),
+                order.len(),
+                table.as_mut_ptr(),
+                table.len(),
+                work.as_mut_ptr(),
+                work.len(),
+                answer.as_mut_ptr(),
+            )
+        };
+        run_of(number, answer)
+    }
+
+    fn hours(&self, lent: &mut hours::Lent) -> HoursTold {
+        let mut answer = [UNWRITTEN as u32; 2];
+        let hours::Lent { plan, hours, places, .. } = lent;
+        // SAFETY: every pointer comes from a reference, with its length; the one written to is exclusive.
+        let number = unsafe {
+            overlay_row_hours(
+                plan.shape.k,
+                plan.shape.sizes.as_ptr(),
+                plan.shape.margins.as_ptr(),
+                plan.cells.as_ptr(),
+                plan.cells.len(),
+                hours.as_ptr(),
+                hours.len(),
+                places.as_ptr(),
+                places.len(),
+                answer.as_mut_ptr(),
+            )
+        };
+        HoursTold { number, from: answer[0], to: answer[1] }
     }
 }

@@ -8,6 +8,7 @@ use extras::compare_extras;
 use ffi::{cover_records, Library};
 use overlay_tests::compare::compare;
 use overlay_tests::crossings::{compare_crossings, ByWords};
+use overlay_tests::hours::{self, compare_hours};
 use overlay_tests::laws::{try_laws, LAWS};
 use overlay_tests::nearest::{compare_nearest, nearest};
 use overlay_tests::reference::REFERENCE;
@@ -36,6 +37,8 @@ fn main() {
     tally.add("crossings", crossings.unwrap_or_else(|found| stop(&found.text, tally.cases())));
     let rounds = compare_rounds(&ffi::round, &rounds::round);
     tally.add("rounds", rounds.unwrap_or_else(|found| stop(&found.text, tally.cases())));
+    let hours = compare_hours(&Library, &hours::ByWords(None));
+    tally.add("hours", hours.unwrap_or_else(|found| stop(&found.text, tally.cases())));
     let laws = try_laws(&Library, &LAWS).unwrap_or_else(|found| stop(&found.text, tally.cases()));
     tally.add("laws", laws);
     let reports = compare_program().unwrap_or_else(|found| stop(&found.text, tally.cases()));

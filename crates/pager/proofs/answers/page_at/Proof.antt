@@ -18,7 +18,7 @@ returns c =
     let s : tie.Start = search needs in
     let k : tie.After-find = search needs in
     let a = s .args in
-    page-lost (a .frame) (a .cells .now) (a .order .now) (s .pre .0) (s .pre .1) (a .ticket) _ (k .find .ensures) (a .counter .now) (a .budget) (a .table .now) (not-true _ (c .before .if1 .taken)) _ (c .refused-page .ensures)
+    page-lost (a .frame) (a .cells .now) (a .hours .now) (a .order .now) (s .pre .0) (s .pre .1) (a .ticket) _ (k .find .ensures) (a .counter .now) (a .budget) (a .table .now) (not-true _ (c .before .if1 .taken)) _ (c .refused-page .ensures)
 
 agrees-requires : tie.Need-agrees-requires
 agrees-requires c κs = search needs
@@ -36,7 +36,7 @@ returns-2 c =
     let e : tie.Else1 = search needs in
     let g : tie.After-agrees = search needs in
     let a = s .args in
-    page-stale (a .frame) (a .cells .now) (a .order .now) (s .pre .0) (s .pre .1) (a .ticket) _ (k .find .ensures) (a .counter .now) (a .budget) (a .table .now) (not-false _ (e .if1 .left)) (sym (g .agrees .ensures) ∙ not-true _ (c .before .if2 .taken)) _ (c .refused-page2 .ensures)
+    page-stale (a .frame) (a .cells .now) (a .hours .now) (a .order .now) (s .pre .0) (s .pre .1) (a .ticket) _ (k .find .ensures) (a .counter .now) (a .budget) (a .table .now) (not-false _ (e .if1 .left)) (sym (g .agrees .ensures) ∙ not-true _ (c .before .if2 .taken)) _ (c .refused-page2 .ensures)
 
 page-from-requires : tie.Need-page-from-requires
 page-from-requires c κs =
@@ -45,7 +45,7 @@ page-from-requires c κs =
     let e : tie.Else1 = search needs in
     let g : tie.After-agrees = search needs in
     let f : tie.Else2 = search needs in
-    (s .pre .0, s .pre .1, k .find .ensures .yes (not-false _ (e .if1 .left)) .0, passing _ _ _ (g .agrees .ensures) (not-false _ (f .if2 .left)) .1)
+    (s .pre .0, s .pre .1, k .find .ensures .yes (not-false _ (e .if1 .left)) .0, passing _ _ _ (g .agrees .ensures) (not-false _ (f .if2 .left)) .1, s .pre .2)
 
 write-count-requires : tie.Need-write-count-requires
 write-count-requires c κs =
@@ -67,9 +67,9 @@ returns-3 c =
     let g : tie.After-agrees = f .before in
     let e : tie.Else1 = g .before .before in
     let k : tie.After-find = e .before .before in
-    let s : tie.Start = k .before .before .before .before .before in
+    let s : tie.Start = k .before .before .before .before .before .before in
     let a = s .args in
-    page-found (a .frame) (a .cells .now) (a .order .now) (s .pre .0) (s .pre .1) (a .ticket) _ (k .find .ensures) (a .counter .now) (a .budget) (a .table .now) (not-false _ (e .if1 .left)) (sym (g .agrees .ensures) ∙ not-false _ (f .if2 .left)) _ _ _ (p .page-from .ensures) (w .write-count .ensures)
+    page-found (a .frame) (a .cells .now) (a .hours .now) (a .order .now) (s .pre .0) (s .pre .1) (a .ticket) _ (k .find .ensures) (a .counter .now) (a .budget) (a .table .now) (not-false _ (e .if1 .left)) (sym (g .agrees .ensures) ∙ not-false _ (f .if2 .left)) _ _ _ (p .page-from .ensures) (w .write-count .ensures)
 
 pub page-at-spec : {M : Type 1} → statement M
 page-at-spec =

@@ -14,7 +14,7 @@ returns c =
     let s : tie.Start = search needs in
     let k : tie.After-find = search needs in
     let a = s .args in
-    cause-lost (a .frame) (a .cells .now) (a .order .now) (s .pre .0) (s .pre .1) (a .ticket) _ (k .find .ensures) (a .counter .now) (not-true _ (c .if1 .taken))
+    cause-lost (a .frame) (a .cells .now) (a .hours .now) (a .order .now) (s .pre .0) (s .pre .1) (a .ticket) _ (k .find .ensures) (a .counter .now) (not-true _ (c .if1 .taken))
 
 agrees-requires : tie.Need-agrees-requires
 agrees-requires c κs = search needs
@@ -26,7 +26,7 @@ returns-2 c =
     let e : tie.Else1 = search needs in
     let g : tie.After-agrees = search needs in
     let a = s .args in
-    cause-stale (a .frame) (a .cells .now) (a .order .now) (s .pre .0) (s .pre .1) (a .ticket) _ (k .find .ensures) (a .counter .now) (not-false _ (e .if1 .left)) (sym (g .agrees .ensures) ∙ not-true _ (c .if2 .taken))
+    cause-stale (a .frame) (a .cells .now) (a .hours .now) (a .order .now) (s .pre .0) (s .pre .1) (a .ticket) _ (k .find .ensures) (a .counter .now) (not-false _ (e .if1 .left)) (sym (g .agrees .ensures) ∙ not-true _ (c .if2 .taken))
 
 returns-3 : tie.Need-returns-3
 returns-3 c =
@@ -35,7 +35,7 @@ returns-3 c =
     let e : tie.Else1 = search needs in
     let g : tie.After-agrees = search needs in
     let a = s .args in
-    cause-none (a .frame) (a .cells .now) (a .order .now) (s .pre .0) (s .pre .1) (a .ticket) _ (k .find .ensures) (a .counter .now) (not-false _ (e .if1 .left)) (sym (g .agrees .ensures) ∙ not-false _ (c .if2 .left))
+    cause-none (a .frame) (a .cells .now) (a .hours .now) (a .order .now) (s .pre .0) (s .pre .1) (a .ticket) _ (k .find .ensures) (a .counter .now) (not-false _ (e .if1 .left)) (sym (g .agrees .ensures) ∙ not-false _ (c .if2 .left))
 
 pub ticket-cause-spec : {M : Type 1} → statement M
 ticket-cause-spec = tie.close (tie.spec find-requires returns agrees-requires returns-2 returns-3)

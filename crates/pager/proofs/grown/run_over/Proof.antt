@@ -5,7 +5,7 @@ use mathlib.Core.Path.{_∙_}
 use native.Mathlib.Omega.{arith}
 use Rattle.plan.specs.Plan.{Typed}
 use Rattle.slots.proofs.Frames.{framing-over}
-use Rattle.pager.proofs.Calls.{ordered, misordered, admitted, run-refused, run-listed, run-made}
+use Rattle.pager.proofs.Calls.{ordered, timing, misordered, admitted, run-refused, run-listed, run-made}
 use Rattle.pager.proofs.grown.run_over.Statement.{statement}
 use Rattle.pager.proofs.grown.run_over.Tie as tie
 
@@ -20,10 +20,10 @@ returns c cells h is =
     let s : tie.Start = search needs in
     let o : tie.After-is-order = search needs in
     let a = s .args in
-    run-refused (a .shape) cells (a .order .now) (a .table .now) (a .work .now) 5 (misordered (a .shape) (a .order .now) (a .grown .now) (o .is-order .ensures) (not-true _ (c .if1 .taken)) cells h is) (λ e. omega arith)
+    run-refused (a .timed) (a .shape) cells (a .hours .now) (a .order .now) (a .table .now) (a .work .now) 5 (misordered (a .timed) (a .shape) (a .hours .now) (a .order .now) (s .pre .1 .0) (a .grown .now) (o .is-order .ensures) (not-true _ (c .if1 .taken)) cells h is) (λ e. omega arith)
 
 frame-of-requires : tie.Need-frame-of-requires
-frame-of-requires c κs = let s : tie.Start = search needs in (omega (arith, typed s .sizes, s .pre .0), s .pre .1 .small)
+frame-of-requires c κs = let s : tie.Start = search needs in (omega (arith, typed s .sizes, s .pre .0 .0), s .pre .0 .1 .small)
 
 run-from-requires : tie.Need-run-from-requires
 run-from-requires c κs =
@@ -32,7 +32,7 @@ run-from-requires c κs =
     let e : tie.Else1 = search needs in
     let f : tie.After-frame-of = search needs in
     let a = s .args in
-    (framing-over (a .shape) (a .grown .now) (f .frame-of .result) (typed s) (s .pre) (f .frame-of .ensures), ordered (a .order .now) (a .grown .now) (o .is-order .ensures) (not-false _ (e .if1 .left)))
+    (framing-over (a .shape) (a .grown .now) (f .frame-of .result) (a .timed) (typed s) (s .pre .0) (f .frame-of .ensures), ordered (a .order .now) (a .grown .now) (o .is-order .ensures) (not-false _ (e .if1 .left)), timing (a .timed) (a .shape) (f .frame-of .result) (a .hours .now) (f .frame-of .ensures) (s .pre .1 .1))
 
 with-ground-requires : tie.Need-with-ground-requires
 with-ground-requires c κs =
@@ -40,7 +40,7 @@ with-ground-requires c κs =
     let f : tie.After-frame-of = search needs in
     let r : tie.After-run-from = search needs in
     let a = s .args in
-    (run-listed (a .shape) (a .grown .now) (f .frame-of .result) (f .frame-of .ensures) (s .pre) (a .table .now) _ _ _ (r .run-from .ensures .0), r .run-from .ensures .1 .ready)
+    (run-listed (a .timed) (a .shape) (a .grown .now) (a .hours .now) (f .frame-of .result) (f .frame-of .ensures) (s .pre .0) (a .table .now) _ _ _ (r .run-from .ensures .0), r .run-from .ensures .1 .ready)
 
 same-length : tie.Need-same-length
 same-length c = search needs
@@ -57,9 +57,9 @@ returns-2 c cells h is =
     let o : tie.After-is-order = search needs in
     let s : tie.Start = search needs in
     let a = s .args in
-    run-made (a .shape) cells (a .order .now) (a .table .now) (a .work .now) (a .grown .now) (f .frame-of .result)
-    (admitted (a .shape) (a .order .now) (a .grown .now) (o .is-order .ensures) (not-false _ (e .if1 .left)) (f .frame-of .result) (f .frame-of .ensures) cells h is) _ _ (r .run-from .ensures .0) _ (g .with-ground .ensures .0) _
-    (g .with-ground .kept .1 .1 .1 .1 .0 ∙ r .run-from .kept .1 .1 .1 .1 .0) (λ n e. g .with-ground .ensures .1 n e ∙ r .run-from .ensures .1 .kept n e)
+    run-made (a .timed) (a .shape) cells (a .hours .now) (a .order .now) (a .table .now) (a .work .now) (a .grown .now) (f .frame-of .result) (f .frame-of .ensures) (s .pre .0)
+    (admitted (a .timed) (a .shape) (a .hours .now) (a .order .now) (s .pre .1 .0) (a .grown .now) (o .is-order .ensures) (not-false _ (e .if1 .left)) (f .frame-of .result) (f .frame-of .ensures) cells h is) _ _ (r .run-from .ensures .0) _ (g .with-ground .ensures .0) _
+    (g .with-ground .kept .1 .1 .1 .1 .0 ∙ r .run-from .kept .1 .1 .1 .1 .1 .0) (λ n e. g .with-ground .ensures .1 n e ∙ r .run-from .ensures .1 .kept n e)
 
 pub run-over-spec : {M : Type 1} → statement M
 run-over-spec =

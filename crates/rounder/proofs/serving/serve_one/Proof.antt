@@ -27,32 +27,32 @@ mul-start c = search needs
 add-end : tie.Need-add-end
 add-end c = search needs
 
-mul-page-at : tie.Need-mul-page-at
-mul-page-at c = search needs
+mul-plain-page : tie.Need-mul-plain-page
+mul-plain-page c = search needs
 
-sub-page-at : tie.Need-sub-page-at
-sub-page-at c = search needs
+sub-plain-page : tie.Need-sub-plain-page
+sub-plain-page c = search needs
 
-part-page-at-start : tie.Need-part-page-at-start
-part-page-at-start c = search needs
+part-plain-page-start : tie.Need-part-plain-page-start
+part-plain-page-start c = search needs
 
-part-page-at-end : tie.Need-part-page-at-end
-part-page-at-end c = search needs
+part-plain-page-end : tie.Need-part-plain-page-end
+part-plain-page-end c = search needs
 
-mul-page-at-2 : tie.Need-mul-page-at-2
-mul-page-at-2 c = search needs
+mul-plain-page-2 : tie.Need-mul-plain-page-2
+mul-plain-page-2 c = search needs
 
-sub-page-at-2 : tie.Need-sub-page-at-2
-sub-page-at-2 c = search needs
+sub-plain-page-2 : tie.Need-sub-plain-page-2
+sub-plain-page-2 c = search needs
 
-part-page-at-start-2 : tie.Need-part-page-at-start-2
-part-page-at-start-2 c = search needs
+part-plain-page-start-2 : tie.Need-part-plain-page-start-2
+part-plain-page-start-2 c = search needs
 
-part-page-at-end-2 : tie.Need-part-page-at-end-2
-part-page-at-end-2 c = search needs
+part-plain-page-end-2 : tie.Need-part-plain-page-end-2
+part-plain-page-end-2 c = search needs
 
-page-at-requires : tie.Need-page-at-requires
-page-at-requires c κs = search needs
+plain-page-requires : tie.Need-plain-page-requires
+plain-page-requires c κs = search needs
 
 same-length : tie.Need-same-length
 same-length c = search needs
@@ -62,14 +62,14 @@ same-length-2 c = search needs
 
 returns : tie.Need-returns
 returns c =
-    let p : tie.After-page-at = search needs in
+    let p : tie.After-plain-page = search needs in
     let s : tie.Start = search needs in
     let a = s .args in
     let at = a .at in
     let start = at * a .size in
     let x : at + 1 - at ≡ 1 = omega arith in
     let y : start + a .size - start ≡ a .size = omega arith in
-    one-served _ (a .t7) at (a .size) (a .budget) (a .counters .now) (a .table .now) _ (at + 1 - at) (start + a .size - start) (omega (arith, sixteen s)) x y _ _ _ (p .page-at .ensures)
+    one-served _ (a .t7) at (a .size) (a .budget) (a .counters .now) (a .table .now) _ (at + 1 - at) (start + a .size - start) (omega (arith, sixteen s)) x y _ _ _ (p .plain-page .ensures)
 
 pub serve-one-spec : {M : Type 1} → statement M
 serve-one-spec =
@@ -80,15 +80,15 @@ serve-one-spec =
     add-next
     mul-start
     add-end
-    mul-page-at
-    sub-page-at
-    part-page-at-start
-    part-page-at-end
-    mul-page-at-2
-    sub-page-at-2
-    part-page-at-start-2
-    part-page-at-end-2
-    page-at-requires
+    mul-plain-page
+    sub-plain-page
+    part-plain-page-start
+    part-plain-page-end
+    mul-plain-page-2
+    sub-plain-page-2
+    part-plain-page-start-2
+    part-plain-page-end-2
+    plain-page-requires
     same-length
     same-length-2
     returns)

@@ -1,0 +1,3 @@
+pub mod Minutes
+pub mod Timed
+pub mod Theorems

@@ -1,0 +1,5 @@
+pub mod Windows
+pub mod Shared
+pub mod Theorems
+pub mod Rowwise
+pub mod Answers
