@@ -33,10 +33,10 @@ struct row {
     int32_t common[OVERLAY_COMMON_CELLS];
 };
 
-/* What all pages brought, and the ground of all rows counted once. */
+/* What all pages brought, and the ground of all rows counted once: whole square metres and a rest in square millimetres. */
 struct table {
     struct row rows[MOST_ROWS];
-    uint64_t count, probes, ground;
+    uint64_t count, probes, metres, rest;
 };
 
 /* Reads a text and makes the order of its plan. */
@@ -106,11 +106,12 @@ static uint32_t count_ground(const struct plan *plan, struct table *table)
     uint64_t answer[OVERLAY_RUN_CELLS];
     uint32_t cause = overlay_run_all(plan->k, plan->sizes, plan->margins, plan->cells, plan->cells_length,
                                      plan->order, plan->order_length, rows, TABLE_CELLS, work, TABLE_CELLS, answer);
-    table->ground = answer[OVERLAY_RUN_GROUND];
+    table->metres = answer[OVERLAY_RUN_GROUND_METRES];
+    table->rest = answer[OVERLAY_RUN_GROUND_REST];
     return cause;
 }
 
-/* The lines of the report. Square metres are rounded once, from the exact ground: half a hundredth up. */
+/* The lines of the report. Square metres are rounded once, from the exact ground: half a hundredth up, and a hundred of them carry into the metres. */
 static void print_table(uint32_t k, const struct table *table)
 {
     for (uint64_t i = 0; i < table->count; i++) {
@@ -120,9 +121,9 @@ static void print_table(uint32_t k, const struct table *table)
             printf("\t%" PRIu32, row->places[layer]);
         printf("\t%" PRIu64 "\t%c\n", row->answer[OVERLAY_ROW_AREA], (char)row->common[OVERLAY_COMMON_KIND]);
     }
-    uint64_t hundredths = (table->ground + 5000) / 10000;
+    uint64_t hundredths = (table->rest + 5000) / 10000;
     printf("TOTAL\t%" PRIu64 "\t%" PRIu64 "\t%" PRIu64 ".%02" PRIu64 "\n", table->count, table->probes,
-           hundredths / 100, hundredths % 100);
+           table->metres + hundredths / 100, hundredths % 100);
 }
 
 int main(void)

@@ -27,7 +27,7 @@
 #include <stdint.h>
 
 /* The version of this interface: another one where a declaration, a number or the order of cells is another, or one comes. */
-#define OVERLAY_VERSION 11
+#define OVERLAY_VERSION 12
 
 /* The largest plan: layers, rectangles, cells, a layer's margin in millimetres, the cells of its windows, and the bytes of the longest text, which is
  * proved. So much is enough for every plan. */
@@ -37,7 +37,7 @@ enum {
     OVERLAY_MOST_CELLS = 12288,
     OVERLAY_MOST_MARGIN = 50000,
     OVERLAY_MOST_HOURS = 6144,
-    OVERLAY_MOST_TEXT = 126055
+    OVERLAY_MOST_TEXT = 138343
 };
 
 /* The stack that is enough for every call (measured). */
@@ -49,7 +49,7 @@ enum overlay_cause {
     OVERLAY_CAUSE_LAYERS = 1,       /* k is not 2 to 6 */
     OVERLAY_CAUSE_SIZES = 2,        /* a size is above 512, or not 0 past k; more than 512 records are kept */
     OVERLAY_CAUSE_CELLS = 3,        /* the cells are not four for each rectangle */
-    OVERLAY_CAUSE_RECT = 4,         /* a coordinate is out of range, left > right or bottom > top */
+    OVERLAY_CAUSE_RECT = 4,         /* a coordinate is not from -10,000,000 to 10,000,000, left > right or bottom > top */
     OVERLAY_CAUSE_ORDER = 5,        /* the order is not the sweep order of the plan */
     OVERLAY_CAUSE_TICKET = 6,       /* the ticket is none of this plan, whatever it counts; of the timed walk in a timed call */
     OVERLAY_CAUSE_ROWS = 7,         /* there are more rows than the table takes; timed ones in a timed call */
@@ -65,7 +65,7 @@ enum overlay_cause {
     OVERLAY_CAUSE_MARGINS = 17,     /* a margin is above 50,000, or not 0 past k; told behind 2. Class 17 is OVERLAY_CLASS_NO_ROW */
     OVERLAY_CAUSE_STALE = 18,       /* the run record is not one cell; for a page, or holds 2^57 or more or not the ticket's count */
     OVERLAY_CAUSE_WORK = 19,        /* the work buffer is shorter than two cells for each row */
-    OVERLAY_CAUSE_RECORD = 20,      /* the corners are not four a record, or one is not finite, out of order or beyond a million when covered */
+    OVERLAY_CAUSE_RECORD = 20,      /* the corners are not four a record, or one is not finite, out of order or beyond ten million when covered */
     OVERLAY_CAUSE_STRIP = 21,       /* a strip's stop is not finite, its lower one is above its upper one, or its kind is above 3 */
     OVERLAY_CAUSE_ROUND = 22,       /* a round has not 1 to 16 clients, its first is none of them, its budget is above 2^32 - 1, or there is not a record for each */
     OVERLAY_CAUSE_PLACES = 23,      /* there are not k places, or a place is not in its layer */
@@ -90,8 +90,9 @@ enum {
     OVERLAY_PAGE_STOP = 0,   /* why it stopped */
     OVERLAY_PAGE_ROWS = 1,   /* how many rows it put at the start of the table, k cells each */
     OVERLAY_PAGE_PROBES = 2, /* how many probes it did */
-    OVERLAY_PAGE_AREA = 3,   /* the sum of the rows' areas in square millimetres */
-    OVERLAY_PAGE_CELLS = 4
+    OVERLAY_PAGE_METRES = 3, /* the sum of the rows' areas: whole square metres ... */
+    OVERLAY_PAGE_REST = 4,   /* ... and a rest below 1,000,000 square millimetres */
+    OVERLAY_PAGE_CELLS = 5
 };
 
 /* Why a page stopped: all rows are handed out, the table holds no more, the budget is used up; 0 after a refusal. */
@@ -101,16 +102,18 @@ enum overlay_stop { OVERLAY_REFUSED = 0, OVERLAY_ENDED = 1, OVERLAY_FULL = 2, OV
 enum {
     OVERLAY_MOST_CLIENTS = 16,
     OVERLAY_ROUND_TICKETS = 192, /* twelve for each ticket */
-    OVERLAY_ROUND_PAGES = 64     /* four for each page */
+    OVERLAY_ROUND_PAGES = 80     /* five for each page */
 };
 
 /* The cells of a whole run's answer. */
 enum {
-    OVERLAY_RUN_ROWS = 0,   /* how many rows there are */
-    OVERLAY_RUN_PROBES = 1, /* how many probes the walk has */
-    OVERLAY_RUN_AREA = 2,   /* the sum of the rows' areas in square millimetres, as of a page's: ground under two rows counts twice */
-    OVERLAY_RUN_GROUND = 3, /* the ground of all rows counted once, in square millimetres */
-    OVERLAY_RUN_CELLS = 4
+    OVERLAY_RUN_ROWS = 0,          /* how many rows there are */
+    OVERLAY_RUN_PROBES = 1,        /* how many probes the walk has */
+    OVERLAY_RUN_METRES = 2,        /* the sum of the rows' areas in whole square metres, as of a page's: ground under two rows counts twice */
+    OVERLAY_RUN_REST = 3,          /* ... and its rest below 1,000,000 square millimetres */
+    OVERLAY_RUN_GROUND_METRES = 4, /* the ground of all rows counted once, in whole square metres */
+    OVERLAY_RUN_GROUND_REST = 5,   /* ... and its rest */
+    OVERLAY_RUN_CELLS = 6
 };
 
 /* The cells of a row's answer: the guard's layer, from 1, and the area in square millimetres. */
@@ -228,14 +231,14 @@ uint32_t overlay_fresh_ticket(uint32_t k, const uint32_t sizes[6], const uint32_
 uint32_t overlay_fetch_page(uint32_t k, const uint32_t sizes[6], const uint32_t margins[6], const int32_t *cells,
                             size_t cells_length, const uint32_t *order, size_t order_length, uint32_t ticket[12],
                             uint64_t *counter, size_t counter_length, uint32_t budget, uint32_t *table,
-                            size_t table_length, uint64_t answer[4]);
+                            size_t table_length, uint64_t answer[5]);
 
 /* A page of the timed walk, as overlay_fetch_page, of the rows whose windows share a minute. Tells 1, 2, 17, 3, 4, 24, 5, 6 and 18; 6 where the ticket is no
  * probe of the timed walk, also where it is one without windows. */
 uint32_t overlay_timed_page(uint32_t k, const uint32_t sizes[6], const uint32_t margins[6], const int32_t *cells,
                             size_t cells_length, const uint32_t *hours, size_t hours_length, const uint32_t *order,
                             size_t order_length, uint32_t ticket[12], uint64_t *counter, size_t counter_length,
-                            uint32_t budget, uint32_t *table, size_t table_length, uint64_t answer[4]);
+                            uint32_t budget, uint32_t *table, size_t table_length, uint64_t answer[5]);
 
 /* A round: m clients, 1 to 16, page through one plan out of one budget, which may be up to 2^32 - 1. They are served in turn, 1 after m, from `first` on. Each
  * makes one page call, as overlay_fetch_page, with its own ticket, its own cell of the counters, the probes left divided by the clients still to serve,
@@ -246,20 +249,20 @@ uint32_t overlay_timed_page(uint32_t k, const uint32_t sizes[6], const uint32_t 
 uint32_t overlay_round(uint32_t k, const uint32_t sizes[6], const uint32_t margins[6], const int32_t *cells,
                        size_t cells_length, const uint32_t *order, size_t order_length, uint32_t m, uint32_t first,
                        uint64_t budget, uint32_t tickets[192], uint64_t *counters, size_t counters_length,
-                       uint32_t *table, size_t table_length, uint32_t *next, uint64_t answer[64]);
+                       uint32_t *table, size_t table_length, uint32_t *next, uint64_t answer[80]);
 
 /* All rows of a plan's table. Cells of the table behind the rows keep what they held. The work buffer has two cells or more for each row: as many cells as
  * the table are always enough. Tells 1, 2, 17, 3, 4, 5, 7 and 19. */
 uint32_t overlay_run_all(uint32_t k, const uint32_t sizes[6], const uint32_t margins[6], const int32_t *cells,
                          size_t cells_length, const uint32_t *order, size_t order_length, uint32_t *table,
-                         size_t table_length, int32_t *work, size_t work_length, uint64_t answer[4]);
+                         size_t table_length, int32_t *work, size_t work_length, uint64_t answer[6]);
 
 /* All rows of a plan's table whose windows share a minute, as overlay_run_all: rows, probes, area and ground are those of the timed walk and its rows, and the
  * table and the work buffer need room for these alone. Tells 1, 2, 17, 3, 4, 24, 5, 7 and 19. */
 uint32_t overlay_timed_run(uint32_t k, const uint32_t sizes[6], const uint32_t margins[6], const int32_t *cells,
                            size_t cells_length, const uint32_t *hours, size_t hours_length, const uint32_t *order,
                            size_t order_length, uint32_t *table, size_t table_length, int32_t *work,
-                           size_t work_length, uint64_t answer[4]);
+                           size_t work_length, uint64_t answer[6]);
 
 /* Leaves in `told` the class of the row that places name, for a plan whose layer k - 1 holds horizontal segments and whose layer k holds vertical ones; 0 after a refusal.
  * Tells 1, 2, 17, 3, 4, 15 and 16. */
@@ -269,7 +272,7 @@ uint32_t overlay_row_class(uint32_t k, const uint32_t sizes[6], const uint32_t m
 /* All rows of such a plan's table, as overlay_run_all, and how many fall in each class, 0 to 16. Tells 1, 2, 17, 3, 4, 15, 16, 5, 7 and 19. */
 uint32_t overlay_crossing_report(uint32_t k, const uint32_t sizes[6], const uint32_t margins[6], const int32_t *cells,
                                  size_t cells_length, const uint32_t *order, size_t order_length, uint32_t *table,
-                                 size_t table_length, int32_t *work, size_t work_length, uint64_t answer[4],
+                                 size_t table_length, int32_t *work, size_t work_length, uint64_t answer[6],
                                  uint32_t counts[17]);
 
 /* Reads a plan text. k, the sizes and the margins are left in theirs, 0 after a refusal; cells behind the plan's keep what they held. Tells 9 to 11. */

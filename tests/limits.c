@@ -204,10 +204,10 @@ int main(void)
         hours[i] = i % 2 ? OVERLAY_WEEK - i / 2 : i / 2;
     measure_all();
 
-    /* The longest text. PLAN takes 7 bytes, each of 6 LAYER lines 16, each of 3,072 RECT lines 41: a word of four bytes, four times a tab and
-     * -1000000, and the line end. 7 + 96 + 125,952 = 126,055. */
+    /* The longest text. PLAN takes 7 bytes, each of 6 LAYER lines 16, each of 3,072 RECT lines 45: a word of four bytes, four times a tab and
+     * -10000000, and the line end. 7 + 96 + 138,240 = 138,343. */
     for (int i = 0; i < OVERLAY_MOST_CELLS; i++)
-        cells[i] = -1000000;
+        cells[i] = -10000000;
     for (int layer = 0; layer < 6; layer++)
         margins[layer] = OVERLAY_MOST_MARGIN;
     if (write_text() != 0 || text_length != OVERLAY_MOST_TEXT || read_text() != 0)

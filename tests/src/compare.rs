@@ -3,7 +3,7 @@
 use crate::call::{ask, bytes, cells_i32, cells_u32, cells_u64, same, show, Answer, Call, Plan};
 use crate::known::{known_calls, known_grounds, known_margins, known_runs, known_tickets};
 use crate::overlay::{Overlay, Page, Stop, Ticket};
-use crate::reference::{count_rows, each_tuple, join, layers_of, pairs, TOO_MANY};
+use crate::reference::{count_rows, each_tuple, join, layers_of, pairs, REACH, TOO_MANY};
 use crate::seeds::{
     covered, equal_plan, grown_by, length, order, other_orders, plan_d, plan_from, shape_of, spell, text,
     tickets, towers, Seeds, DAMAGES, FIELDS, STYLES,
@@ -652,9 +652,17 @@ const NUMBERS: &[&str] = &[
     "9999999",
     "-9999999",
     "10000000",
+    "10000001",
     "-10000000",
+    "-10000001",
     "12345678",
+    "99999999",
+    "-99999999",
+    "100000000",
+    "-100000000",
+    "123456789",
     "01000000",
+    "010000000",
     "4294967296",
     "4294967298",
     "18446744073709551618",
@@ -699,6 +707,8 @@ const TEXTS: &[&str] = &[
     "PLAN,-2/LAYER,0,0/LAYER,0,0/",
     "PLAN,9999999/",
     "PLAN,10000000/",
+    "PLAN,99999999/",
+    "PLAN,100000000/",
     "PLAN,2/LAYER,0,0/",
     "PLAN,2/LAYER,0,0/LAYER,0,0/",
     "PLAN,2/LAYER,0,0/LAYER,0,0",
@@ -740,11 +750,16 @@ const TEXTS: &[&str] = &[
     "PLAN,2/LAYER,1,0/RECT,0,0,1000001,0/LAYER,0,0/",
     "PLAN,2/LAYER,1,0/RECT,-1000001,0,0,0/LAYER,0,0/",
     "PLAN,2/LAYER,1,0/RECT,-1000000,-1000000,1000000,1000000/LAYER,0,0/",
+    "PLAN,2/LAYER,1,0/RECT,0,0,10000001,0/LAYER,0,0/",
+    "PLAN,2/LAYER,1,0/RECT,-10000001,0,0,0/LAYER,0,0/",
+    "PLAN,2/LAYER,1,0/RECT,0,0,100000000,0/LAYER,0,0/",
+    "PLAN,2/LAYER,1,0/RECT,-10000000,-10000000,10000000,10000000/LAYER,0,0/",
     "PLAN,3/LAYER,0,0/LAYER,0,0/",
     "PLAN,3/LAYER,0,0/LAYER,0,0/LAYER,0,0/",
     "PLAN,6/LAYER,0,0/LAYER,0,0/LAYER,0,0/LAYER,0,0/LAYER,0,0/LAYER,0,0/",
     "PLAN,7/LAYER,0,0/LAYER,0,0/LAYER,0,0/LAYER,0,0/LAYER,0,0/LAYER,0,0/LAYER,0,0/",
     "PLAN,2/LAYER,9999999,0/LAYER,0,0/x",
+    "PLAN,2/LAYER,99999999,0/LAYER,0,0/x",
     "PLAN,9/x/",
     "PLAN,9/LAYER,0,0/RECT,1,1,0,0/LAYER,00,0/",
     "PLAN,2/LAYER,0,0/LAYER,0,0/LAYER,0,0/RECT",
@@ -776,6 +791,8 @@ const TEXTS: &[&str] = &[
     "PLAN,2/LAYER,1,2/RECT,0,0,0,0/LAYER,0,50000/",
     "PLAN,2/LAYER,1,50000/RECT,-1000000,-1000000,1000000,1000000/LAYER,1,50000/RECT,0,0,0,0/",
     "PLAN,2/LAYER,1,50000/RECT,-1000001,0,0,0/LAYER,0,0/",
+    "PLAN,2/LAYER,1,50000/RECT,-10000000,-10000000,10000000,10000000/LAYER,1,50000/RECT,0,0,0,0/",
+    "PLAN,2/LAYER,1,50000/RECT,-10000001,0,0,0/LAYER,0,0/",
     "PLAN,2/LAYER,1,1/RECT,1,0,0,0/LAYER,0,0/",
     "PLAN,2/LAYER,1,49999/RECT,0,0,0,0/LAYER,0,49999/",
     "PLAN,2/LAYER,1,50001/RECT,0,0,0,0/LAYER,0,0/",
@@ -784,6 +801,8 @@ const TEXTS: &[&str] = &[
     "PLAN,2/LAYER,0,0/LAYER,0,-50000/",
     "PLAN,2/LAYER,0,-9999999/LAYER,0,9999999/",
     "PLAN,2/LAYER,0,10000000/LAYER,0,0/",
+    "PLAN,2/LAYER,0,-99999999/LAYER,0,99999999/",
+    "PLAN,2/LAYER,0,100000000/LAYER,0,0/",
     "PLAN,2/LAYER,0,-1/LAYER,0,0",
     "PLAN,2/LAYER,0,50001/LAYER,0/",
     "PLAN,2/LAYER,0,0/LAYER,0,0/LAYER,0,1/",
@@ -860,7 +879,7 @@ impl Bench<'_> {
             7 => self.wrapped_sizes(),
             8 => self.row_cap(),
             9 => self.every_byte(&text(&plan_d()), USUAL),
-            10 => self.every_byte(&text(&plan_from(&[&[[-1_000_000, -99, 7, 1_000_000]], &[], &[]])), USUAL),
+            10 => self.every_byte(&text(&plan_from(&[&[[-REACH, -99, 7, REACH]], &[], &[]])), USUAL),
             11 => self.every_byte(
                 &spell("PLAN,2/LAYER,1,0/RECT,-1,0,23,4/LAYER,0,0/"),
                 &(0..=255).collect::<Vec<u8>>(),
@@ -878,6 +897,7 @@ impl Bench<'_> {
             19 => self.ground_box(),
             20 => self.ground_large(),
             21 => self.kind_box(),
+            22 => self.wide_sums(),
             _ => Ok(()),
         }
     }
@@ -1097,7 +1117,7 @@ impl Bench<'_> {
 
     /// Rectangles at the ends of the range, which grow past it; among them the largest area.
     fn far_out(&mut self) -> Outcome {
-        let most = 1_000_000;
+        let most = REACH;
         let all = [-most, -most, most, most];
         for k in 2..=6 {
             for margins in [[50_000; 6], [0, 50_000, 0, 50_000, 0, 50_000], [1; 6], [50_000, 1, 2, 3, 4, 5]] {
@@ -1331,7 +1351,7 @@ impl Bench<'_> {
             let plan = towers(k, size);
             self.ask_run(kind, &plan, &order(&plan), 40_000)?;
         }
-        let most = 1_000_000;
+        let most = REACH;
         for margin in [0, 1, 50_000] {
             let all = equal_plan(&[3, 3], [-most, -most, most, most]);
             let corners = plan_from(&[
@@ -1348,6 +1368,39 @@ impl Bench<'_> {
                 let plan = self.seeds.plan_of(&sizes, style);
                 self.ask_run(kind, &plan, &order(&plan), 600_000)?;
             }
+        }
+        Ok(())
+    }
+}
+
+// ---------------------------------------------------------------- airport aprons (02, Q-13)
+
+impl Bench<'_> {
+    /// Sums at each side of a whole square metre, and above 2^64 square millimetres, of whole runs and of pages.
+    fn wide_sums(&mut self) -> Outcome {
+        let kind = "sums";
+        // Rows of one area: a rest of 999,999 and about it, and many that carry.
+        for height in
+            [1, 4_999, 5_000, 499_999, 500_000, 994_999, 995_000, 999_999, 1_000_000, 1_000_001, 1_999_999]
+        {
+            for (sizes, rest) in [([1, 1], 5), ([3, 1], 5), ([9, 7], 9)] {
+                let mut plan = equal_plan(&sizes, [0, 0, 1, height]);
+                plan.cells[3] = height.min(rest * 111_111);
+                let fresh = tickets(&plan)[0];
+                self.ask_run(kind, &plan, &order(&plan), 200)?;
+                for limits in [(3, 200), (u32::MAX, 200), (u32::MAX, 4)] {
+                    let page = self.ask_page(kind, &plan, &order(&plan), &fresh, limits)?;
+                    self.ask_page(kind, &plan, &order(&plan), &page.ticket, limits)?;
+                }
+            }
+        }
+        // 65,536 rows of the largest area come to 2.6 × 10^19.
+        for sizes in [[256, 256], [128, 300]] {
+            let plan = grown_by(equal_plan(&sizes, [-REACH, -REACH, REACH, REACH]), &[50_000, 50_000]);
+            let fresh = tickets(&plan)[0];
+            self.ask_run(kind, &plan, &order(&plan), 200_000)?;
+            self.ask_page(kind, &plan, &order(&plan), &fresh, (u32::MAX, 200_000))?;
+            self.ask_page(kind, &plan, &order(&plan), &fresh, (100_000, 200_000))?;
         }
         Ok(())
     }

@@ -1,7 +1,9 @@
 //! Calls and reports whose answers the paper gives, in plain numbers and bytes: every overlay is held to them.
 
 use crate::call::{Answer, Call, Plan};
-use crate::overlay::{CommonTold, Page, PairTold, Reading, RowTold, Run, Shape, Stop, Ticket, Writing};
+use crate::overlay::{
+    CommonTold, Page, PairTold, Reading, RowTold, Run, Shape, Stop, Ticket, Total, Writing,
+};
 use crate::seeds::spell;
 
 /// The cells of plan D: two rectangles, and one that overlaps the first and touches the second.
@@ -110,7 +112,7 @@ pub fn known_calls() -> Vec<KnownCall> {
         order("the order of seven layers", shaped(7, 2, 1), 1, &[7, 7, 7]),
         order("the order of a size of 513", shaped(2, 513, 1), 2, &[7, 7, 7]),
         order("the order of one rectangle too few", shaped(2, 2, 2), 3, &[7, 7, 7]),
-        order("the order of a right of 1000001", with_cell(2, 1_000_001), 4, &[7, 7, 7]),
+        order("the order of a right of 10000001", with_cell(2, 10_000_001), 4, &[7, 7, 7]),
         order("the order of a left above its right", with_cell(4, 2001), 4, &[7, 7, 7]),
         order("an order buffer of two cells", shaped(2, 2, 1), 8, &[7, 7]),
         row("the first row of D", shaped(2, 2, 1), &[0, 0], (0, 2, 250_000)),
@@ -120,7 +122,7 @@ pub fn known_calls() -> Vec<KnownCall> {
         row("a row of no layers", shaped(0, 2, 1), &[0, 0], (1, 0, 0)),
         row("a row with a size of 600", shaped(2, 2, 600), &[0, 0], (2, 0, 0)),
         row("a row with one rectangle too many", shaped(2, 1, 1), &[0, 0], (3, 0, 0)),
-        row("a row with a right of 1000001", with_cell(2, 1_000_001), &[0, 0], (4, 0, 0)),
+        row("a row with a right of 10000001", with_cell(2, 10_000_001), &[0, 0], (4, 0, 0)),
         pair("the pair of the first row of D", shaped(2, 2, 1), &[0, 0], (0, 0, 0)),
         pair("the pair of two that touch", shaped(2, 2, 1), &[1, 0], (0, 0, 0)),
         pair("the pair of two that lie a millimetre apart", with_cell(9, 501), &[1, 0], (0, 1, 2)),
@@ -141,7 +143,7 @@ pub fn known_calls() -> Vec<KnownCall> {
         pair("a pair of no layers", shaped(0, 2, 1), &[], (1, 0, 0)),
         pair("a pair with a size of 600", shaped(2, 2, 600), &[9], (2, 0, 0)),
         pair("a pair with one rectangle too many", shaped(2, 1, 1), &[9], (3, 0, 0)),
-        pair("a pair with a right of 1000001", with_cell(2, 1_000_001), &[9], (4, 0, 0)),
+        pair("a pair with a right of 10000001", with_cell(2, 10_000_001), &[9], (4, 0, 0)),
     ]
 }
 
@@ -150,7 +152,7 @@ pub fn known_margins() -> Vec<KnownCall> {
     let d = || shaped(2, 2, 1);
     let most = |k: usize| {
         let mut plan = in_a_line(&[0; 6][..k]);
-        plan.cells = [-1_000_000, -1_000_000, 1_000_000, 1_000_000].repeat(k);
+        plan.cells = [-10_000_000, -10_000_000, 10_000_000, 10_000_000].repeat(k);
         grown(plan, &[50_000; 6][..k])
     };
     let two = "PLAN,2/LAYER,1,1500/RECT,-3,-2,5,4/LAYER,0,20/";
@@ -164,15 +166,15 @@ pub fn known_margins() -> Vec<KnownCall> {
         order("2 before 17", grown(shaped(2, 513, 1), &[50_001]), 2, &[7, 7, 7]),
         order("1 before 17", grown(shaped(1, 2, 1), &[50_001]), 1, &[7, 7, 7]),
         order("17 before 3", grown(shaped(2, 2, 2), &[50_001]), 17, &[7, 7, 7]),
-        order("17 before 4", grown(with_cell(2, 1_000_001), &[50_001]), 17, &[7, 7, 7]),
+        order("17 before 4", grown(with_cell(2, 10_000_001), &[50_001]), 17, &[7, 7, 7]),
         order("17 before 8", grown(d(), &[50_001]), 17, &[7, 7]),
-        order("a right of 1000001 in a margin", grown(with_cell(2, 1_000_001), &[50_000]), 4, &[7, 7, 7]),
+        order("a right of 10000001 in a margin", grown(with_cell(2, 10_000_001), &[50_000]), 4, &[7, 7, 7]),
         order("a left above its right in a margin", grown(with_cell(4, 2001), &[50_000]), 4, &[7, 7, 7]),
         row("the first row of D in a margin of 250", grown(d(), &[0, 250]), &[0, 0], (0, 2, 562_500)),
         row("the second row of D in a margin of 250", grown(d(), &[0, 250]), &[1, 0], (0, 1, 187_500)),
         row("a guard made by growing", grown(d(), &[0, 500]), &[0, 0], (0, 1, 1_000_000)),
-        row("the largest area", most(2), &[0, 0], (0, 1, 4_410_000_000_000)),
-        row("the largest area of six layers", most(6), &[0; 6], (0, 1, 4_410_000_000_000)),
+        row("the largest area", most(2), &[0, 0], (0, 1, 404_010_000_000_000)),
+        row("the largest area of six layers", most(6), &[0; 6], (0, 1, 404_010_000_000_000)),
         row("a row with a margin of 4294967295", grown(d(), &[u32::MAX]), &[0, 0], (17, 0, 0)),
         row("5 and 5 close a gap of 10", grown(in_a_line(&[0, 20]), &[5, 5]), &[0, 0], (0, 2, 0)),
         row("5 and 4 leave a millimetre of it", grown(in_a_line(&[0, 20]), &[5, 4]), &[0, 0], (0, 0, 0)),
@@ -228,7 +230,7 @@ fn paged(
         let (plan, order, record) = (shaped(2, 2, 1), vec![0, 2, 1], record.to_vec());
         Call::Page { plan, order, ticket: brought.0, record, budget: 2, table }
     };
-    let page = Page { stop, rows: rows.len() as u32 / 2, trials, area, ticket };
+    let page = Page { stop, rows: rows.len() as u32 / 2, trials, area: Total::of(area.into()), ticket };
     KnownCall { name, call: call(brought.1, &[]), answer: Answer::Page(page), after: call(after, rows) }
 }
 
@@ -293,6 +295,7 @@ fn ran(
     after: &[u32],
 ) -> KnownCall {
     let (number, rows, trials, area, ground) = told;
+    let (area, ground) = (Total::of(area.into()), Total::of(ground.into()));
     let call = |after: &[u32], work: Vec<i32>| {
         let mut cells = vec![7; table];
         cells[..after.len()].copy_from_slice(after);
@@ -366,9 +369,9 @@ pub fn known_runs() -> Vec<KnownCall> {
         ),
         ran(
             "ground from one end of the range to the other",
-            (grown(one_each([-1_000_000, -1_000_000, 1_000_000, 1_000_000]), &[50_000, 50_000]), &[0, 1]),
+            (grown(one_each([-10_000_000, -10_000_000, 10_000_000, 10_000_000]), &[50_000, 50_000]), &[0, 1]),
             (2, 2),
-            (0, 1, 2, 4_410_000_000_000, 4_410_000_000_000),
+            (0, 1, 2, 404_010_000_000_000, 404_010_000_000_000),
             &[0, 0],
         ),
     ]
@@ -460,7 +463,7 @@ pub fn known_grounds() -> Vec<KnownCall> {
         common("the ground of a size of 600", shaped(2, 2, 600), &[0, 0], none(2)),
         common("the ground of a margin of 50001", grown(d(), &[50_001]), &[0, 0], none(17)),
         common("the ground of one rectangle too many", shaped(2, 1, 1), &[0, 0], none(3)),
-        common("the ground of a right of 1000001", with_cell(2, 1_000_001), &[0, 0], none(4)),
+        common("the ground of a right of 10000001", with_cell(2, 10_000_001), &[0, 0], none(4)),
     ]
 }
 
@@ -516,6 +519,19 @@ pub fn known_reports() -> Vec<KnownReport> {
         report("65,537 bytes", &long, "REFUSED,13/"),
         report("4,999 square millimetres", &of_height(4_999), "ROW,1,0,0,4999,G/TOTAL,1,2,0.00/"),
         report("5,000 square millimetres", &of_height(5_000), "ROW,1,0,0,5000,G/TOTAL,1,2,0.01/"),
+        report("994,999 square millimetres", &of_height(994_999), "ROW,1,0,0,994999,G/TOTAL,1,2,0.99/"),
+        report("995,000 square millimetres", &of_height(995_000), "ROW,1,0,0,995000,G/TOTAL,1,2,1.00/"),
+        report("9,994,999 square millimetres", &of_height(9_994_999), "ROW,1,0,0,9994999,G/TOTAL,1,2,9.99/"),
+        report("9,995,000 square millimetres", &of_height(9_995_000), "ROW,1,0,0,9995000,G/TOTAL,1,2,10.00/"),
+        report("a top of 1000001", &of_height(1_000_001), "ROW,1,0,0,1000001,G/TOTAL,1,2,1.00/"),
+        report("a top of 10000000", &of_height(10_000_000), "ROW,1,0,0,10000000,G/TOTAL,1,2,10.00/"),
+        report("a top of 10000001", &of_height(10_000_001), "REFUSED,10/"),
+        report("a top of 100000000", &of_height(100_000_000), "REFUSED,9/"),
+        report(
+            "the whole apron",
+            "PLAN,2/LAYER,1,50000/RECT,-10000000,-10000000,10000000,10000000/LAYER,1,50000/RECT,-10000000,-10000000,10000000,10000000/",
+            "ROW,1,0,0,404010000000000,G/TOTAL,1,2,404010000.00/",
+        ),
         report(
             "4,999 square millimetres under two rows",
             &two("RECT,0,0,1,4999/RECT,0,0,1,4999/"),

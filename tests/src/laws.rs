@@ -129,8 +129,9 @@ pub const LAWS: Laws = Laws {
     together: |old, first, second| {
         let (a, b) = (first.run, second.run);
         // Ground of the whole lies in one of the parts, and each of them has no more than the whole.
-        let ground = old.run.ground <= a.ground + b.ground && a.ground.max(b.ground) <= old.run.ground;
-        a.area + b.area == old.run.area && ground
+        let [whole, first, second] = [old.run, a, b].map(|run| run.ground.value());
+        let ground = whole <= first + second && first.max(second) <= whole;
+        a.area.value() + b.area.value() == old.run.area.value() && ground
     },
 };
 
@@ -209,7 +210,9 @@ pub const WRONG_LAWS: [(Laws, &str); 10] = [
     ),
     (
         Laws {
-            together: |old, first, second| first.run.ground + second.run.ground == old.run.ground,
+            together: |old, first, second| {
+                first.run.ground.value() + second.run.ground.value() == old.run.ground.value()
+            },
             ..LAWS
         },
         "the ground of the two parts added up to the old one",
@@ -276,7 +279,7 @@ impl Trial<'_> {
         self.saw("exchange of rows", !old.rows.is_empty());
         self.saw("exchange of sizes", shape.sizes[i] != shape.sizes[j]);
         self.saw("exchange of margins", shape.margins[i] != shape.margins[j]);
-        self.saw("exchange over shared ground", old.run.ground < old.run.area);
+        self.saw("exchange over shared ground", old.run.ground.value() < old.run.area.value());
         self.saw("exchange of neighbours alone", j == i + 1 && !old.rows.is_empty());
         self.saw("exchange across others", j > i + 1 && !old.rows.is_empty());
         Ok(())
@@ -305,7 +308,10 @@ impl Trial<'_> {
         self.saw("cut into nothing and all", at == 0 && !old.rows.is_empty());
         self.saw("cut into all and nothing", at == plan.shape.sizes[layer] as usize && !old.rows.is_empty());
         self.saw("cut of a layer with a margin", plan.shape.margins[layer] > 0 && !b.rows.is_empty());
-        self.saw("cut through shared ground", old.run.ground < a.run.ground + b.run.ground);
+        self.saw(
+            "cut through shared ground",
+            old.run.ground.value() < a.run.ground.value() + b.run.ground.value(),
+        );
         Ok(())
     }
 

@@ -3,7 +3,7 @@
 use crate::call::Plan;
 use crate::compare::Difference;
 use crate::overlay::{Overlay, Shape};
-use crate::reference::{grow, layers_of, plan_fault, ungrown, Layers, Rect, REFERENCE};
+use crate::reference::{grow, layers_of, plan_fault, ungrown, Layers, Rect, REACH, REFERENCE};
 use crate::seeds::{grown_by, plan_from, Seeds, DAMAGES, STYLES};
 
 /// What lies nearest in one layer.
@@ -52,7 +52,7 @@ fn squared_gap(around: [i32; 4], r: &Rect) -> i128 {
 
 /// "left > right, bottom > top or a coordinate out of range".
 fn bad_box(around: [i32; 4]) -> bool {
-    let out = around.iter().any(|&c| !(-1_000_000..=1_000_000).contains(&c));
+    let out = around.iter().any(|&c| !(-REACH..=REACH).contains(&c));
     out || around[0] > around[2] || around[1] > around[3]
 }
 
@@ -197,6 +197,14 @@ fn box_anywhere(shape: &Shape, cells: &[i32], around: [i32; 4]) -> NearestTold {
     }
 }
 
+/// A box beyond the range of before refused.
+fn box_near(shape: &Shape, cells: &[i32], around: [i32; 4]) -> NearestTold {
+    match nearest(shape, cells, around) {
+        NearestTold { number: 0, .. } if around.iter().any(|side| side.abs() > 1_000_000) => refused(14),
+        told => told,
+    }
+}
+
 /// A refusal with an entry left in it.
 fn refusal_filled(shape: &Shape, cells: &[i32], around: [i32; 4]) -> NearestTold {
     let mut told = nearest(shape, cells, around);
@@ -233,7 +241,7 @@ fn box_grown(shape: &Shape, cells: &[i32], around: [i32; 4]) -> NearestTold {
 }
 
 /// Every wrong version with its description.
-pub const WRONG_NEAREST: [(WrongNearest, &str); 14] = [
+pub const WRONG_NEAREST: [(WrongNearest, &str); 15] = [
     (not_squared, "gaps not squared"),
     (larger_gap, "the larger gap alone"),
     (open_edges, "touching told as a gap"),
@@ -245,6 +253,7 @@ pub const WRONG_NEAREST: [(WrongNearest, &str); 14] = [
     (box_first, "14 before the causes of the plan"),
     (box_turned, "a box with its sides the wrong way round accepted"),
     (box_anywhere, "a box out of range accepted"),
+    (box_near, "a box of the old range alone accepted"),
     (refusal_filled, "a refusal with an entry"),
     (not_grown, "rectangles not grown"),
     (box_grown, "the box grown too"),
@@ -266,10 +275,10 @@ fn boxes_about(r: &[i32]) -> Vec<[i32; 4]> {
         [left - 7, bottom - 2, left - 1, bottom - 1],
         [left - 4, top + 3, left - 4, top + 3],
         [left, top + 1, right, top + 1],
-        [-1_000_000, -1_000_000, -1_000_000, -1_000_000],
-        [1_000_000, 1_000_000, 1_000_000, 1_000_000],
-        [-1_000_000, -1_000_000, 1_000_000, 1_000_000],
-        [-1_000_000, top, -999_999, top],
+        [-REACH, -REACH, -REACH, -REACH],
+        [REACH, REACH, REACH, REACH],
+        [-REACH, -REACH, REACH, REACH],
+        [-REACH, top, 1 - REACH, top],
     ]
 }
 
@@ -277,10 +286,10 @@ fn boxes_about(r: &[i32]) -> Vec<[i32; 4]> {
 const BAD: [[i32; 4]; 9] = [
     [1, 0, 0, 0],
     [0, 1, 0, 0],
-    [-1_000_001, 0, 0, 0],
-    [0, -1_000_001, 0, 0],
-    [0, 0, 1_000_001, 0],
-    [0, 0, 0, 1_000_001],
+    [-10_000_001, 0, 0, 0],
+    [0, -10_000_001, 0, 0],
+    [0, 0, 10_000_001, 0],
+    [0, 0, 0, 10_000_001],
     [i32::MIN, i32::MIN, i32::MAX, i32::MAX],
     [i32::MAX, i32::MAX, i32::MIN, i32::MIN],
     [0, 0, i32::MAX, 0],
@@ -288,7 +297,7 @@ const BAD: [[i32; 4]; 9] = [
 
 /// A box of two drawn corners.
 fn drawn_box(seeds: &mut Seeds) -> [i32; 4] {
-    let most = seeds.pick(&[4, 20, 200, 1_000_000]);
+    let most = seeds.pick(&[4, 20, 200, 1_000_000, REACH]);
     let mut corner = || seeds.between(-most, most);
     let (a, b, c, d) = (corner(), corner(), corner(), corner());
     [a.min(b), c.min(d), a.max(b), c.max(d)]
@@ -324,12 +333,8 @@ fn forecourt() -> (Plan, [i32; 4], [(u32, u64); 6]) {
 /// Compares two calls over many plans and boxes; returns how many cases were compared.
 pub fn compare_nearest(left: Nearest, right: Nearest) -> Result<u64, Difference> {
     let (mut seeds, mut cases) = (Seeds(SEED), 0);
-    let far = plan_from(&[
-        &[[-1_000_000; 4], [0, 0, 3, 4]],
-        &[[1_000_000; 4]],
-        &[[1_000_000, -1_000_000, 1_000_000, -1_000_000]],
-    ]);
-    for around in [[-1_000_000; 4], [1_000_000; 4], [0, 0, 0, 0], [6, 8, 9, 9]] {
+    let far = plan_from(&[&[[-REACH; 4], [0, 0, 3, 4]], &[[REACH; 4]], &[[REACH, -REACH, REACH, -REACH]]]);
+    for around in [[-REACH; 4], [REACH; 4], [0, 0, 0, 0], [6, 8, 9, 9]] {
         compare_one(&mut cases, (left, right), &far, around)?;
         for margins in [[50_000; 3], [2, 3, 50_000], [3, 0, 1]] {
             compare_one(&mut cases, (left, right), &grown_by(far.clone(), &margins), around)?;

@@ -45,13 +45,35 @@ pub enum Stop {
     Refused(u32),
 }
 
+/// An area sum: "kept as whole square metres and a rest below 1,000,000 square millimetres".
+#[derive(Clone, Copy, Debug, PartialEq, Eq)]
+pub struct Total {
+    pub metres: u64,
+    pub rest: u64,
+}
+
+impl Total {
+    /// The sum of no areas.
+    pub const NONE: Total = Total { metres: 0, rest: 0 };
+
+    /// The sum of so many square millimetres.
+    pub fn of(millimetres: u128) -> Total {
+        Total { metres: (millimetres / 1_000_000) as u64, rest: (millimetres % 1_000_000) as u64 }
+    }
+
+    /// Its square millimetres.
+    pub fn value(self) -> u128 {
+        u128::from(self.metres) * 1_000_000 + u128::from(self.rest)
+    }
+}
+
 /// What a page call returns.
 #[derive(Clone, Copy, Debug, PartialEq, Eq)]
 pub struct Page {
     pub stop: Stop,
     pub rows: u32,
     pub trials: u32,
-    pub area: u64,
+    pub area: Total,
     pub ticket: Ticket,
 }
 
@@ -61,8 +83,8 @@ pub struct Run {
     pub number: u32,
     pub rows: u32,
     pub trials: u64,
-    pub area: u64,
-    pub ground: u64,
+    pub area: Total,
+    pub ground: Total,
 }
 
 /// What the row call returns; layer 0 with number 0 says that the cells name no row.

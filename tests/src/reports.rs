@@ -3,6 +3,7 @@
 use crate::call::Plan;
 use crate::compare::Difference;
 use crate::known::known_reports;
+use crate::reference::REACH;
 use crate::seeds::{
     covered, equal_plan, grown_by, plan_d, plan_from, shape_of, spell, text, towers, Seeds, STYLES,
 };
@@ -81,7 +82,7 @@ fn rounding() -> Vec<Plan> {
     plans.push(covered(&[[0, 0, 1, 4_999], [0, 4_998, 1, 5_000], [0, 0, 1, 2]], 3));
     plans.push(covered(&[[0, 0, 100, 100], [50, 50, 150, 150], [100, 0, 150, 50], [0, 100, 50, 150]], 4));
     plans.push(equal_plan(&[2, 2, 2], [0, 0, 50, 99]));
-    let largest = equal_plan(&[64, 96], [-1_000_000, -1_000_000, 1_000_000, 1_000_000]);
+    let largest = equal_plan(&[64, 96], [-REACH, -REACH, REACH, REACH]);
     plans.push(grown_by(largest.clone(), &[50_000, 50_000]));
     plans.push(largest);
     // A point grown by 35 has 4,900 square millimetres, by 36 it has 5,184.

@@ -2,7 +2,7 @@
 
 use crate::call::{cells_u32, Plan};
 use crate::compare::Difference;
-use crate::overlay::{Overlay, Page, Stop, Ticket};
+use crate::overlay::{Overlay, Page, Stop, Ticket, Total};
 use crate::reference::{refused_page, REFERENCE};
 use crate::seeds::{length, order, other_orders, plan_d, Seeds, DAMAGES, FIELDS, STYLES};
 
@@ -100,7 +100,7 @@ pub const SLIPS: [(Slip, &str); 23] = [
 
 /// "past m the ticket comes back as given, the stop is Spent and all else 0".
 fn idle(ticket: &Ticket) -> Page {
-    Page { stop: Stop::Spent, rows: 0, trials: 0, area: 0, ticket: *ticket }
+    Page { stop: Stop::Spent, rows: 0, trials: 0, area: Total::NONE, ticket: *ticket }
 }
 
 /// The round of 02's words, or a wrong version of it.

@@ -2,7 +2,7 @@
 
 use crate::call::Plan;
 use crate::overlay::{Shape, Ticket};
-use crate::reference::{layers_of, passes, sweep_order, text_of, trials_by, walk_length};
+use crate::reference::{layers_of, passes, sweep_order, text_of, trials_by, walk_length, REACH};
 
 /// A xorshift generator; everything below is drawn from it.
 pub struct Seeds(pub u64);
@@ -17,10 +17,11 @@ pub const DAMAGES: u64 = 11;
 pub const FIELDS: u64 = 11;
 
 /// Coordinates at the ends of the range and about 0.
-const EXTREMES: [i32; 9] = [-1_000_000, -999_999, -999_998, -1, 0, 1, 999_998, 999_999, 1_000_000];
+const EXTREMES: [i32; 11] =
+    [-REACH, 1 - REACH, 2 - REACH, -1_000_001, -1, 0, 1, 1_000_001, REACH - 2, REACH - 1, REACH];
 
 /// Coordinates outside the range.
-const OUTSIDE: [i32; 6] = [1_000_001, -1_000_001, i32::MAX, i32::MIN, 2_000_000, -10_000_000];
+const OUTSIDE: [i32; 6] = [REACH + 1, -REACH - 1, i32::MAX, i32::MIN, 2 * REACH, -10 * REACH];
 
 /// Numbers that no size may be.
 const TOO_LARGE: [u32; 8] = [513, 514, 1024, 65_536, 1 << 30, 1 << 31, u32::MAX - 1, u32::MAX];
@@ -109,12 +110,12 @@ impl Seeds {
             1 => self.on_grid(-4, 5),
             2 => self.pick(few),
             3 => self.extreme(),
-            4 => self.on_grid(-1_000_000, 1_000_000),
+            4 => self.on_grid(-REACH, REACH),
             5 => self.thin(),
             6 => self.tile(),
             7 => [0, self.between(-2, 0), self.between(0, 2), self.between(0, 2)],
             8 => self.about_zero(100),
-            9 => self.about_zero(1_000_000),
+            9 => self.about_zero(REACH),
             _ => {
                 let other = self.pick(&[0, 2, 5, 6, 7]);
                 self.rect(other, few)
@@ -380,7 +381,7 @@ pub fn equal_plan(sizes: &[u32], rect: [i32; 4]) -> Plan {
 
 /// A plan of k layers whose rows have just these rectangles as their ground: they are layer 1, and each other layer holds one that covers all.
 pub fn covered(rects: &[[i32; 4]], k: usize) -> Plan {
-    let all: &[[i32; 4]] = &[[-1_000_000, -1_000_000, 1_000_000, 1_000_000]];
+    let all: &[[i32; 4]] = &[[-REACH, -REACH, REACH, REACH]];
     let layers: Vec<&[[i32; 4]]> = (0..k).map(|j| if j == 0 { rects } else { all }).collect();
     plan_from(&layers)
 }

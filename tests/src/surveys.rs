@@ -132,7 +132,7 @@ const RIGHT: Rules = Rules {
     covers_first: false,
     judges_kept_only: false,
     loose_length: false,
-    reach: 1_000_000,
+    reach: 10_000_000,
     most: 512,
     room_a_record: 4,
     writes_early: false,
@@ -171,7 +171,7 @@ impl Rules {
         [(self.down)(record[0]), (self.down)(record[1]), (self.up)(record[2]), (self.up)(record[3])]
     }
 
-    /// "any record's corner not finite, out of order, or covered beyond a million millimetres, 20"
+    /// "any record's corner not finite, out of order, or covered beyond a million millimetres, 20"; Q-13: ten million
     fn sound(&self, record: &[f64]) -> bool {
         record.iter().all(|&corner| is_finite(corner))
             && rank(record[0]) <= rank(record[2])
@@ -304,8 +304,9 @@ pub fn wrong_surveys() -> Vec<(Box<Cover<'static>>, &'static str)> {
         (wrong(Rules { covers_first: true, ..RIGHT }), "records kept by their covers"),
         (wrong(Rules { judges_kept_only: true, ..RIGHT }), "records that are not kept not judged"),
         (wrong(Rules { loose_length: true, ..RIGHT }), "corners behind the last whole record not judged"),
-        (wrong(Rules { reach: 999_999, ..RIGHT }), "a million refused"),
-        (wrong(Rules { reach: 1_000_001, ..RIGHT }), "covers beyond a million"),
+        (wrong(Rules { reach: 9_999_999, ..RIGHT }), "ten million refused"),
+        (wrong(Rules { reach: 1_000_000, ..RIGHT }), "covers of the old range alone"),
+        (wrong(Rules { reach: 10_000_001, ..RIGHT }), "covers beyond ten million"),
         (wrong(Rules { most: 511, ..RIGHT }), "512 refused"),
         (wrong(Rules { most: 513, ..RIGHT }), "513 kept"),
         (wrong(Rules { room_a_record: 5, ..RIGHT }), "an exact fit refused"),
@@ -349,10 +350,12 @@ pub fn floats() -> Vec<f64> {
         1.5,
         2.5,
         3.0,
-        999_999.0,
         999_999.5,
-        1_000_000.5,
         1_000_001.0,
+        9_999_999.0,
+        9_999_999.5,
+        10_000_000.5,
+        10_000_001.0,
         4_503_599_627_370_495.5,
         9_007_199_254_740_993.0,
         1e300,
@@ -365,6 +368,7 @@ pub fn floats() -> Vec<f64> {
         1.0,
         2.0,
         1_000_000.0,
+        10_000_000.0,
         1_073_741_824.0,
         2_147_483_648.0,
         4_294_967_296.0,
@@ -432,7 +436,7 @@ fn float(seeds: &mut Seeds, floats: &[f64], style: u64) -> f64 {
     match style {
         0 => f64::from(seeds.between(-6, 6)) / 2.0,
         1 => {
-            f64::from(seeds.between(-1_000_000, 1_000_000))
+            f64::from(seeds.between(-10_000_000, 10_000_000))
                 + (seeds.draw() >> 11) as f64 / 9_007_199_254_740_992.0
         }
         2 => f64::from_bits(seeds.draw()),
@@ -527,9 +531,15 @@ pub fn known_surveys() -> Vec<(&'static str, Survey, u32, Vec<i32>)> {
         ("whole corners stay", free(&[-3.0, 4.0, 5.0, 4.0]), 0, vec![-3, 4, 5, 4]),
         ("negative zero", free(&[-0.0, -0.0, -0.0, -0.0]), 0, vec![0, 0, 0, 0]),
         ("the smallest values", free(&[-5e-324, 5e-324, 5e-324, 5e-324]), 0, vec![-1, 0, 1, 1]),
-        ("a million", free(&[-1e6, -1e6, 1e6, 1e6]), 0, vec![-1_000_000, -1_000_000, 1_000_000, 1_000_000]),
-        ("beyond a million to the right", free(&[0.0, 0.0, 1_000_000.5, 0.0]), 20, vec![]),
-        ("beyond a million at the bottom", free(&[0.0, -1_000_000.000_000_1, 0.0, 0.0]), 20, vec![]),
+        (
+            "ten million",
+            free(&[-1e7, -1e7, 1e7, 1e7]),
+            0,
+            vec![-10_000_000, -10_000_000, 10_000_000, 10_000_000],
+        ),
+        ("beyond ten million to the right", free(&[0.0, 0.0, 10_000_000.5, 0.0]), 20, vec![]),
+        ("beyond ten million at the bottom", free(&[0.0, -10_000_000.000_000_1, 0.0, 0.0]), 20, vec![]),
+        ("beyond a million", free(&[0.0, 0.0, 1_000_000.5, 0.0]), 0, vec![0, 0, 1_000_001, 0]),
         ("no number", free(&[0.0, f64::NAN, 0.0, 0.0]), 20, vec![]),
         ("infinite", free(&[-inf, 0.0, 0.0, 0.0]), 20, vec![]),
         ("out of order", free(&[0.5, 0.0, 0.25, 0.0]), 20, vec![]),
@@ -576,8 +586,8 @@ pub fn known_surveys() -> Vec<(&'static str, Survey, u32, Vec<i32>)> {
             vec![1, 0, 2, 1, 0, 0, 0, 0],
         ),
         (
-            "not kept, and beyond a million",
-            with([2, 0], [0.0, 1.0, 0.0, 0.0], &[2.0, 0.0, 1e7, 0.0]),
+            "not kept, and beyond ten million",
+            with([2, 0], [0.0, 1.0, 0.0, 0.0], &[2.0, 0.0, 1e8, 0.0]),
             20,
             vec![],
         ),

@@ -1,13 +1,13 @@
 //! Overlays with one slip each; the comparison must catch every one.
 
 use crate::overlay::{
-    CommonTold, Overlay, Page, PairTold, Reading, RowTold, Run, Shape, Stop, Ticket, Writing,
+    CommonTold, Overlay, Page, PairTold, Reading, RowTold, Run, Shape, Stop, Ticket, Total, Writing,
 };
 use crate::reference::{
     about, area, bad_places, count_rows, first_of, grow, intersection, is_empty, join, kind_of, layers_of,
     line_of, page_from, pairs, passes, plan_fault, position, rects_at, refused_page, refused_pair,
     refused_run, report, square_metres, stale, sweep_order, takes, text_of, ticket_at, trials_by, ungrown,
-    union_of, Layers, Line, Passes, Rect, Row, Rules, REFERENCE, TOO_MANY,
+    union_of, Layers, Line, Passes, Rect, Row, Rules, REACH, REFERENCE, TOO_MANY,
 };
 
 /// The slips.
@@ -50,7 +50,8 @@ pub enum Slip {
     RunRefusalRows,
     WriteRefusalLength,
     ReadRefusalShape,
-    EightDigits,
+    NineDigits,
+    SevenDigits,
     SignLost,
     PageCapIgnored,
     EightWrites,
@@ -165,10 +166,20 @@ pub enum Slip {
     NoRowPoint,
     CommonRefusalKind,
     CommonTooLong,
+    SumWrapped,
+    SumCarryLost,
+    SumUncarried,
+    SumRestDropped,
+    GroundUncarried,
+    GroundRestDropped,
+    RangeOld,
+    RangeWide,
+    RangeEnd,
+    ReadRangeOld,
 }
 
 /// Every slip with its description.
-pub const SLIPS: [(Slip, &str); 152] = [
+pub const SLIPS: [(Slip, &str); 163] = [
     (Slip::TiesTwice, "guards chosen with <= on both sides, so ties list a row twice"),
     (Slip::OpenEdges, "open edges"),
     (Slip::SpentAtEnd, "Spent reported where the last trial ended the walk"),
@@ -206,7 +217,8 @@ pub const SLIPS: [(Slip, &str); 152] = [
     (Slip::RunRefusalRows, "a refused whole run telling the rows it counted"),
     (Slip::WriteRefusalLength, "a refused writing telling a length"),
     (Slip::ReadRefusalShape, "a refused reading telling a k"),
-    (Slip::EightDigits, "a number of eight digits taken for one"),
+    (Slip::NineDigits, "a number of nine digits taken for one"),
+    (Slip::SevenDigits, "a number of eight digits not well formed"),
     (Slip::SignLost, "a minus passed over"),
     (Slip::PageCapIgnored, "a page without the cap of 1,000,000 rows"),
     (Slip::EightWrites, "an order buffer written before refusal 8"),
@@ -321,6 +333,16 @@ pub const SLIPS: [(Slip, &str); 152] = [
     (Slip::NoRowPoint, "no row told as a point"),
     (Slip::CommonRefusalKind, "a refused call telling a kind"),
     (Slip::CommonTooLong, "more than k cells read as the first k for the common ground"),
+    (Slip::SumWrapped, "area sums kept in 64 bits of square millimetres"),
+    (Slip::SumCarryLost, "a full rest not carried into the metres of an area sum"),
+    (Slip::SumUncarried, "a rest of 1,000,000 square millimetres or more"),
+    (Slip::SumRestDropped, "area sums in whole square metres alone"),
+    (Slip::GroundUncarried, "the union as a rest alone"),
+    (Slip::GroundRestDropped, "the union in whole square metres alone"),
+    (Slip::RangeOld, "coordinates of the old range alone"),
+    (Slip::RangeWide, "a coordinate of 10,000,001 taken"),
+    (Slip::RangeEnd, "a coordinate of 10,000,000 refused"),
+    (Slip::ReadRangeOld, "texts of the old range alone"),
 ];
 
 /// The reference with one slip.
@@ -361,10 +383,20 @@ fn grown_cells(shape: &Shape, cells: &[i32]) -> Vec<i32> {
 /// The causes of a plan with check 4 on the grown rectangles.
 fn four_grown(shape: &Shape, cells: &[i32]) -> u32 {
     match first_of(&[1, 2, 17, 3], shape, cells) {
-        0 if cells.iter().any(|cell| cell.unsigned_abs() > 2_000_000) => 4,
+        0 if cells.iter().any(|cell| cell.unsigned_abs() > 20_000_000) => 4,
         0 => first_of(&[4], shape, &grown_cells(shape, cells)),
         fault => fault,
     }
+}
+
+/// Whether a coordinate lies outside the range that was.
+fn beyond_old(cells: &[i32]) -> bool {
+    cells.iter().any(|cell| cell.unsigned_abs() > 1_000_000)
+}
+
+/// Cells of which each size is another one; the least number, which has none, stays.
+fn moved(cells: &[i32], size: fn(i32) -> i32) -> Vec<i32> {
+    cells.iter().map(|&cell| cell.checked_abs().map_or(cell, |of| cell.signum() * size(of))).collect()
 }
 
 /// The causes of a plan whose margins are taken for others.
@@ -382,6 +414,16 @@ fn rules_of(slip: Slip) -> Rules {
         Slip::SeventeenLate => judged(|shape, cells| first_of(&[1, 2, 3, 17, 4], shape, cells)),
         Slip::SeventeenLast => judged(|shape, cells| first_of(&[1, 2, 3, 4, 17], shape, cells)),
         Slip::FourGrown => judged(four_grown),
+        Slip::RangeOld => judged(|shape, cells| match plan_fault(shape, cells) {
+            0 if beyond_old(cells) => 4,
+            fault => fault,
+        }),
+        Slip::RangeWide => judged(|shape, cells| {
+            plan_fault(shape, &moved(cells, |size| size - i32::from(size == REACH + 1)))
+        }),
+        Slip::RangeEnd => {
+            judged(|shape, cells| plan_fault(shape, &moved(cells, |size| size + i32::from(size == REACH))))
+        }
         Slip::MarginPastK => judged(|shape, cells| {
             let within = |shape: &Shape| {
                 let mut margins = shape.margins;
@@ -530,6 +572,35 @@ fn grounds(layers: &Layers, table: &[u32], rows: u32) -> Vec<Rect> {
     rows.filter_map(|row| rects_at(layers, row).into_iter().reduce(intersection)).collect()
 }
 
+/// The union of some ground as it is kept.
+fn total_of(rects: &[Rect]) -> Total {
+    Total::of(union_of(rects).into())
+}
+
+/// The areas of the first rows of a table.
+fn areas_of(shape: &Shape, cells: &[i32], table: &[u32], rows: u32) -> Vec<u64> {
+    grounds(&layers_of(shape, cells), table, rows).into_iter().map(area).collect()
+}
+
+/// Whether a slip is one of area sums.
+fn sums_wrong(slip: Slip) -> bool {
+    matches!(slip, Slip::SumWrapped | Slip::SumCarryLost | Slip::SumUncarried | Slip::SumRestDropped)
+}
+
+/// The sum of areas under a slip.
+fn summed_by(slip: Slip, areas: &[u64]) -> Total {
+    let all: u128 = areas.iter().map(|&area| u128::from(area)).sum();
+    let metres = areas.iter().map(|area| area / 1_000_000).sum();
+    let rest: u64 = areas.iter().map(|area| area % 1_000_000).sum();
+    match slip {
+        Slip::SumWrapped => Total::of(u128::from(all as u64)),
+        Slip::SumCarryLost => Total { metres, rest: rest % 1_000_000 },
+        Slip::SumUncarried => Total { metres, rest },
+        Slip::SumRestDropped => Total { rest: 0, ..Total::of(all) },
+        _ => Total::of(all),
+    }
+}
+
 /// The area of what a row's rectangles have in common as they are drawn; 0 where that is nothing.
 fn ungrown_area(layers: &Layers, row: &[u32]) -> u64 {
     let common = rects_at(layers, row).into_iter().reduce(intersection).filter(|&b| !is_empty(b));
@@ -537,9 +608,10 @@ fn ungrown_area(layers: &Layers, row: &[u32]) -> u64 {
 }
 
 /// These areas of the first rows of a table, summed.
-fn ungrown_areas(shape: &Shape, cells: &[i32], table: &[u32], rows: u32) -> u64 {
+fn ungrown_areas(shape: &Shape, cells: &[i32], table: &[u32], rows: u32) -> Total {
     let layers = ungrown(shape, cells);
-    table.chunks(layers.len()).take(rows as usize).map(|row| ungrown_area(&layers, row)).sum()
+    let rows = table.chunks(layers.len()).take(rows as usize);
+    Total::of(rows.map(|row| u128::from(ungrown_area(&layers, row))).sum())
 }
 
 /// The guard of a row by lefts as they are drawn: the greatest, in the lowest layer.
@@ -596,9 +668,10 @@ fn width_squared(layers: &Layers, row: &[u32]) -> u64 {
 }
 
 /// The widths squared of the first rows of a table, summed.
-fn widths_squared(shape: &Shape, cells: &[i32], table: &[u32], rows: u32) -> u64 {
+fn widths_squared(shape: &Shape, cells: &[i32], table: &[u32], rows: u32) -> Total {
     let layers = layers_of(shape, cells);
-    table.chunks(layers.len()).take(rows as usize).map(|row| width_squared(&layers, row)).sum()
+    let rows = table.chunks(layers.len()).take(rows as usize);
+    Total::of(rows.map(|row| u128::from(width_squared(&layers, row))).sum())
 }
 
 /// A whole run by way of one page under a rule for passing, which wants no work buffer.
@@ -614,7 +687,7 @@ fn run_by(rule: Passes, plan: (&Shape, &[i32]), order: &[u32], table: &mut [u32]
         return refused_run(7);
     }
     let page = page_from(&layers, &list, 0, u32::MAX, table);
-    let (trials, ground) = (list.len() as u64, union_of(&grounds(&layers, table, page.rows)));
+    let (trials, ground) = (list.len() as u64, total_of(&grounds(&layers, table, page.rows)));
     Run { number: 0, rows: page.rows, trials, area: page.area, ground }
 }
 
@@ -766,14 +839,15 @@ fn without_minus_zero(text: &[u8]) -> Vec<u8> {
     out
 }
 
-/// A text in which every number of eight digits has another of seven, which no plan holds.
-fn eight_digits_cut(text: &[u8]) -> Vec<u8> {
+/// A text in which every number of so many digits has another in its place.
+fn digits_cut(text: &[u8], count: usize, other: &[u8]) -> Vec<u8> {
     let mut out = Vec::new();
     for part in text.split_inclusive(|&byte| byte == 9 || byte == 10) {
         let digits = part.strip_prefix(b"-").unwrap_or(part);
-        let eight = digits.len() == 9 && digits[..8].iter().all(u8::is_ascii_digit) && digits[0] != b'0';
+        let many =
+            digits.len() == count + 1 && digits[..count].iter().all(u8::is_ascii_digit) && digits[0] != b'0';
         let (number, end) = part.split_at(part.len() - 1);
-        out.extend(if eight { b"9999999" } else { number });
+        out.extend(if many { other } else { number });
         out.extend(end);
     }
     out
@@ -787,7 +861,7 @@ fn cap_ignored(plan: (&Shape, &[i32]), order: &[u32], page: Page, budget: u32, t
     Page {
         rows: page.rows + more.rows,
         trials: page.trials + more.trials,
-        area: page.area + more.area,
+        area: Total::of(page.area.value() + more.area.value()),
         ..more
     }
 }
@@ -839,7 +913,11 @@ impl Wrong {
             (Slip::EndedEarly, _) => ended_early(shape, cells, page),
             (Slip::WidthSquared, _) => Page { area: widths_squared(shape, cells, table, page.rows), ..page },
             (Slip::AreaUngrown, _) => Page { area: ungrown_areas(shape, cells, table, page.rows), ..page },
-            (Slip::AreaNarrow, _) => Page { area: u64::from(page.area as u32), ..page },
+            (Slip::AreaNarrow, _) => Page { area: Total::of(u128::from(page.area.value() as u32)), ..page },
+            (slip, _) if sums_wrong(slip) => {
+                let areas = areas_of(shape, cells, table, page.rows);
+                Page { area: summed_by(slip, &areas), ..page }
+            }
             (Slip::RestCleared, _) => {
                 table[page.rows as usize * shape.k as usize..].fill(0);
                 page
@@ -857,7 +935,7 @@ impl Wrong {
             }
         }
         if self.0 == Slip::CapIgnored && count_rows(&layers) <= (table.len() / k) as u64 {
-            return Run { number: 0, rows: count_rows(&layers) as u32, trials: 0, area: 0, ground: 0 };
+            return Run { number: 0, rows: count_rows(&layers) as u32, ..refused_run(0) };
         }
         if self.0 == Slip::RunRefusalRows {
             return Run { rows: count_rows(&layers) as u32, ..refused_run(7) };
@@ -1171,22 +1249,30 @@ impl Overlay for Wrong {
             (Slip::NineteenRows, 19) => Run { rows: count_rows(&layers_of(shape, cells)) as u32, ..run },
             (Slip::NineteenGround, 19) => {
                 let rows = join(&layers_of(shape, cells));
-                Run { ground: union_of(&rows.iter().map(|row| row.common).collect::<Vec<_>>()), ..run }
+                Run { ground: total_of(&rows.iter().map(|row| row.common).collect::<Vec<_>>()), ..run }
             }
             (Slip::GroundGuards, 0) => {
                 let layers = layers_of(shape, cells);
                 let guard =
                     |row: Row| layers[row.guard as usize - 1][row.places[row.guard as usize - 1] as usize];
-                Run { ground: union_of(&join(&layers).into_iter().map(guard).collect::<Vec<_>>()), ..run }
+                Run { ground: total_of(&join(&layers).into_iter().map(guard).collect::<Vec<_>>()), ..run }
             }
             (Slip::GroundDrawn, 0) => {
                 let mut drawn = grounds(&ungrown(shape, cells), table, run.rows);
                 drawn.retain(|&r| !is_empty(r));
-                Run { ground: union_of(&drawn), ..run }
+                Run { ground: total_of(&drawn), ..run }
             }
             (_, 7) => self.slip_seventh(shape, cells, table),
             (Slip::WidthSquared, 0) => Run { area: widths_squared(shape, cells, table, run.rows), ..run },
             (Slip::AreaUngrown, 0) => Run { area: ungrown_areas(shape, cells, table, run.rows), ..run },
+            (Slip::GroundUncarried, 0) => {
+                Run { ground: Total { metres: 0, rest: run.ground.value() as u64 }, ..run }
+            }
+            (Slip::GroundRestDropped, 0) => Run { ground: Total { rest: 0, ..run.ground }, ..run },
+            (slip, 0) if sums_wrong(slip) => {
+                let areas = areas_of(shape, cells, table, run.rows);
+                Run { area: summed_by(slip, &areas), ..run }
+            }
             (Slip::LengthOfPasses, 0) if run.rows == 0 => Run { trials: 0, ..run },
             _ => run,
         }
@@ -1196,7 +1282,8 @@ impl Overlay for Wrong {
     fn read(&self, text: &[u8], cells: &mut [i32]) -> Reading {
         let other = match self.0 {
             Slip::MinusZero => without_minus_zero(text),
-            Slip::EightDigits => eight_digits_cut(text),
+            Slip::NineDigits => digits_cut(text, 9, b"99999999"),
+            Slip::SevenDigits => digits_cut(text, 8, b"x"),
             Slip::LastLineOpen if !text.ends_with(b"\n") => [text, b"\n"].concat(),
             Slip::ReadMarginFirst => with_layer_lines(text, margin_first),
             Slip::OldLayerLines => with_layer_lines(text, |mut fields| {
@@ -1216,6 +1303,7 @@ impl Overlay for Wrong {
         match (self.0, reading.number) {
             (Slip::SignLost, 0) => read.iter_mut().for_each(|cell| *cell = cell.abs()),
             (Slip::ReadPast, 0) => past.iter_mut().take(1).for_each(|cell| *cell = 0),
+            (Slip::ReadRangeOld, 0) if beyond_old(read) => return Reading { number: 10, shape: Shape::NONE },
             (Slip::ReadRefusalShape, 11) => {
                 return Reading { shape: Shape { k: 2, ..reading.shape }, ..reading }
             }
@@ -1269,7 +1357,7 @@ impl Overlay for Wrong {
 pub type Report = fn(&[u8]) -> Vec<u8>;
 
 /// Every wrong report with its description.
-pub const REPORT_SLIPS: [(Report, &str); 13] = [
+pub const REPORT_SLIPS: [(Report, &str); 16] = [
     (rounded_rows, "each row's area rounded before summing"),
     (summed_rows, "a total of all areas, ground under two rows twice"),
     (short_work, "a work buffer of 6,144 cells lent, which does not suffice for every table"),
@@ -1283,6 +1371,9 @@ pub const REPORT_SLIPS: [(Report, &str); 13] = [
     (exchanged_kinds, "ROW lines with E and P exchanged"),
     (first_pair_kinds, "ROW lines with the kind of their first two rectangles"),
     (open_kinds, "a report without the rows that only touch"),
+    (carry_lost, "a rest rounded up to a whole metre lost"),
+    (hundred_hundredths, "a hundred hundredths behind the point"),
+    (rest_cut, "whole square metres alone"),
 ];
 
 /// The report with each row's area rounded to hundredths of a square metre before summing.
@@ -1293,17 +1384,34 @@ fn rounded_rows(input: &[u8]) -> Vec<u8> {
     for line in text.split_inclusive('\n') {
         let fields: Vec<&str> = line.trim_end().split('\t').collect();
         if fields[0] == "ROW" {
-            let area: u64 = fields[fields.len() - 2].parse().expect("an area before the kind");
+            let area: u128 = fields[fields.len() - 2].parse().expect("an area before the kind");
             hundredths += (area + 5_000) / 10_000;
         }
         if fields[0] == "TOTAL" {
-            let metres = square_metres(hundredths * 10_000);
+            let metres = square_metres(Total::of(hundredths * 10_000));
             out += &format!("TOTAL\t{}\t{}\t{}\n", fields[1], fields[2], metres);
         } else {
             out += line;
         }
     }
     out.into_bytes()
+}
+
+/// The report whose metres do not know of the rounding of their rest.
+fn carry_lost(input: &[u8]) -> Vec<u8> {
+    let metres = |total: Total| format!("{}.{:02}", total.metres, (total.rest + 5_000) / 10_000 % 100);
+    Rules { metres, ..REFERENCE }.report(input)
+}
+
+/// The report with 100 hundredths where a rest is rounded up.
+fn hundred_hundredths(input: &[u8]) -> Vec<u8> {
+    let metres = |total: Total| format!("{}.{:02}", total.metres, (total.rest + 5_000) / 10_000);
+    Rules { metres, ..REFERENCE }.report(input)
+}
+
+/// The report of the metres alone.
+fn rest_cut(input: &[u8]) -> Vec<u8> {
+    Rules { metres: |total| format!("{}.00", total.metres), ..REFERENCE }.report(input)
 }
 
 /// The report with the sum of the rows' areas in its total.

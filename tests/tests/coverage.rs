@@ -155,7 +155,7 @@ impl Overlay for Counting {
         let run = REFERENCE.run(shape, cells, order, table, work);
         self.count(format!("run {}", run.number));
         if run.number == 0 && run.rows > 1 {
-            let shared = if run.ground < run.area { "shared" } else { "apart" };
+            let shared = if run.ground.value() < run.area.value() { "shared" } else { "apart" };
             self.count(format!("run with ground {shared}, k {}", shape.k));
         }
         if run.number == 0 && work.len() == 2 * run.rows as usize {

@@ -1,7 +1,7 @@
 //! Every example of the paper's "Ground to check" and "The report", and facts that tie the parts together.
 
 use overlay_tests::call::Plan;
-use overlay_tests::overlay::{Overlay, Page, Reading, Run, Shape, Stop, Ticket, Writing};
+use overlay_tests::overlay::{Overlay, Page, Reading, Run, Shape, Stop, Ticket, Total, Writing};
 use overlay_tests::reference::{
     area, each_row_by_loops, each_row_by_product, each_tuple, intersection, is_empty, join, kind_of,
     layers_of, passes, rects_at, report, row_of, share_a_point, square_metres, trials_by, union_by_lines,
@@ -53,7 +53,10 @@ fn number_with(right: &str) -> u32 {
 #[test]
 fn d_has_two_rows_and_four_trials() {
     let (told, table) = run(&plan_d(), 6);
-    assert_eq!(told, Run { number: 0, rows: 2, trials: 4, area: 250_000, ground: 250_000 });
+    assert_eq!(
+        told,
+        Run { number: 0, rows: 2, trials: 4, area: Total::of(250_000), ground: Total::of(250_000) }
+    );
     assert_eq!(table, [0, 0, 1, 0, 77, 77]);
     let rows = join(&layers_of(&plan_d().shape, &plan_d().cells));
     assert_eq!((rows[0].guard, rows[0].area, rows[1].guard, rows[1].area), (2, 250_000, 1, 0));
@@ -74,10 +77,10 @@ fn d_walks_as_said() {
 #[test]
 fn d_by_budget_two() {
     let (first, table) = page(&plan_d(), &fresh(&plan_d()), 2, 10);
-    assert_eq!((first.stop, first.rows, first.trials, first.area), (Stop::Spent, 1, 2, 250_000));
+    assert_eq!((first.stop, first.rows, first.trials, first.area.value()), (Stop::Spent, 1, 2, 250_000));
     assert_eq!(table, [0, 0, 77, 77, 77, 77, 77, 77, 77, 77]);
     let (second, table) = page(&plan_d(), &first.ticket, 2, 10);
-    assert_eq!((second.stop, second.rows, second.trials, second.area), (Stop::Ended, 1, 2, 0));
+    assert_eq!((second.stop, second.rows, second.trials, second.area.value()), (Stop::Ended, 1, 2, 0));
     assert_eq!((second.ticket, &table[..3]), (Ticket::ENDED.after(4), &[1, 0, 77][..]));
 }
 
@@ -94,13 +97,19 @@ fn d_by_a_table_of_two_cells() {
 #[test]
 fn d_without_budget_and_cells_is_full() {
     let (told, _) = page(&plan_d(), &fresh(&plan_d()), 0, 0);
-    assert_eq!(told, Page { stop: Stop::Full, rows: 0, trials: 0, area: 0, ticket: fresh(&plan_d()) });
+    assert_eq!(
+        told,
+        Page { stop: Stop::Full, rows: 0, trials: 0, area: Total::NONE, ticket: fresh(&plan_d()) }
+    );
 }
 
 #[test]
 fn equal_rectangles_have_one_row_with_the_guard_in_layer_1() {
     let plan = equal_plan(&[1, 1], [3, 4, 5, 6]);
-    assert_eq!(run(&plan, 2).0, Run { number: 0, rows: 1, trials: 2, area: 4, ground: 4 });
+    assert_eq!(
+        run(&plan, 2).0,
+        Run { number: 0, rows: 1, trials: 2, area: Total::of(4), ground: Total::of(4) }
+    );
     let told = REFERENCE.row(&plan.shape, &plan.cells, &[0, 0]);
     assert_eq!((told.number, told.layer, told.area), (0, 1, 4));
 }
@@ -108,14 +117,20 @@ fn equal_rectangles_have_one_row_with_the_guard_in_layer_1() {
 #[test]
 fn sizes_1_and_0_have_no_trials() {
     let plan = equal_plan(&[1, 0], [3, 4, 5, 6]);
-    assert_eq!(run(&plan, 0).0, Run { number: 0, rows: 0, trials: 0, area: 0, ground: 0 });
+    assert_eq!(
+        run(&plan, 0).0,
+        Run { number: 0, rows: 0, trials: 0, area: Total::of(0), ground: Total::of(0) }
+    );
     assert_eq!(fresh(&plan), Ticket::ENDED);
 }
 
 #[test]
 fn sizes_1_1_0_have_two_trials_and_no_row() {
     let plan = equal_plan(&[1, 1, 0], [3, 4, 5, 6]);
-    assert_eq!(run(&plan, 0).0, Run { number: 0, rows: 0, trials: 2, area: 0, ground: 0 });
+    assert_eq!(
+        run(&plan, 0).0,
+        Run { number: 0, rows: 0, trials: 2, area: Total::of(0), ground: Total::of(0) }
+    );
 }
 
 #[test]
@@ -131,7 +146,7 @@ fn touching_is_meeting() {
 
 #[test]
 fn spellings_of_a_number() {
-    assert_eq!(["-0", "07", "1000001", "1000000"].map(number_with), [9, 9, 10, 0]);
+    assert_eq!(["-0", "07", "10000001", "1000000", "1000001"].map(number_with), [9, 9, 10, 0, 0]);
     let (reading, cells) = read(&spell("PLAN,2/LAYER,1,0/RECT,0,0,1000000,1000/LAYER,0,0/"), 5);
     assert_eq!(reading, Reading { number: 0, shape: shape_of(&[1, 0]) });
     assert_eq!(cells, [0, 0, 1_000_000, 1000, 77]);
@@ -163,8 +178,8 @@ fn texts_that_10_and_9_part() {
     let number = |spelling: &str| read(&spell(spelling), 0).0.number;
     assert_eq!(number("PLAN,-2/"), 10);
     assert_eq!(number("PLAN,2/"), 10);
-    assert_eq!(number("PLAN,9999999/"), 10);
-    assert_eq!(number("PLAN,10000000/"), 9);
+    assert_eq!(number("PLAN,99999999/"), 10);
+    assert_eq!(number("PLAN,100000000/"), 9);
     assert_eq!(number("PLAN,9/LAYER,00,0/"), 9);
     assert_eq!(number("PLAN,2/PLAN,2/LAYER,0,0/LAYER,0,0/"), 9);
     assert_eq!(number("PLAN,2/RECT,0,0,0,0/LAYER,1,0/LAYER,0,0/"), 10);
@@ -180,7 +195,7 @@ fn causes_come_in_the_order_of_the_lines() {
     assert_eq!(number(7, [0; 6], &[]), 1);
     assert_eq!(number(2, [513, 0, 0, 0, 0, 0], &[1]), 2);
     assert_eq!(number(2, [1, 0, 1, 0, 0, 0], &[1]), 2);
-    assert_eq!(number(2, [2, 0, 0, 0, 0, 0], &[2_000_000, 0, 0, 0]), 3);
+    assert_eq!(number(2, [2, 0, 0, 0, 0, 0], &[20_000_000, 0, 0, 0]), 3);
     assert_eq!(number(2, [1, 0, 0, 0, 0, 0], &cells), 8);
     cells[0] = 1;
     assert_eq!(number(2, [1, 0, 0, 0, 0, 0], &cells), 4);
@@ -198,7 +213,7 @@ fn cause_17_stands_behind_2_and_before_3() {
     assert_eq!(number(2, one, past, &[1, 0, 0, 0]), 17);
     assert_eq!(number(3, one, past, &[]), 3);
     assert_eq!(number(2, one, [50_000, 50_000, 0, 0, 0, 0], &[1, 0, 0, 0]), 4);
-    assert_eq!(number(2, one, [50_000, 50_000, 0, 0, 0, 0], &[-1_000_000; 4]), 8);
+    assert_eq!(number(2, one, [50_000, 50_000, 0, 0, 0, 0], &[-10_000_000; 4]), 8);
     assert_eq!(number(6, one, [50_000; 6], &[0; 4]), 8);
 }
 
@@ -228,7 +243,10 @@ fn report_of_d() {
 
 #[test]
 fn square_metres_are_rounded_once() {
-    assert_eq!([4_999, 5_000, 250_000, 999_995_000].map(square_metres), ["0.00", "0.01", "0.25", "1000.00"]);
+    assert_eq!(
+        [4_999, 5_000, 250_000, 999_995_000].map(|sum| square_metres(Total::of(sum))),
+        ["0.00", "0.01", "0.25", "1000.00"]
+    );
     let beside = covered(&[[0, 0, 1, 4_999], [1, 0, 2, 4_999]], 2);
     assert_eq!(report(&text(&beside)), spell("ROW,1,0,0,4999,G/ROW,1,1,0,4999,G/TOTAL,2,4,0.01/"));
     let over = equal_plan(&[2, 1], [0, 0, 1, 4_999]);
@@ -306,10 +324,26 @@ fn a_larger_margin_loses_no_row() {
 
 #[test]
 fn no_area_is_above_the_largest() {
-    let most = equal_plan(&[1, 1], [-1_000_000, -1_000_000, 1_000_000, 1_000_000]);
+    let most = equal_plan(&[1, 1], [-10_000_000, -10_000_000, 10_000_000, 10_000_000]);
     let most = grown_by(most, &[50_000, 50_000]);
-    assert_eq!(REFERENCE.row(&most.shape, &most.cells, &[0, 0]).area, 4_410_000_000_000);
-    assert!(plans().iter().flat_map(rows_of).all(|(_, area)| area <= 4_410_000_000_000));
+    assert_eq!(REFERENCE.row(&most.shape, &most.cells, &[0, 0]).area, 404_010_000_000_000);
+    assert!(plans().iter().flat_map(rows_of).all(|(_, area)| area <= 404_010_000_000_000));
+}
+
+#[test]
+fn sums_are_metres_and_a_rest() {
+    for sum in [0, 1, 999_999, 1_000_000, 1_000_001, 1 << 63, 404_010_000_000_000 * 1_000_000] {
+        let total = Total::of(sum);
+        assert_eq!((total.value(), total.rest < 1_000_000), (sum, true));
+    }
+    let printed = [994_999, 995_000, 999_999, 1_000_000].map(|sum| square_metres(Total::of(sum)));
+    assert_eq!(printed, ["0.99", "1.00", "1.00", "1.00"]);
+    let wide = equal_plan(&[256, 256], [-10_000_000, -10_000_000, 10_000_000, 10_000_000]);
+    let (told, _) = run(&wide, 200_000);
+    assert_eq!(
+        (told.area, told.area.value() > 1 << 64),
+        (Total { metres: 65_536 * 400_000_000, rest: 0 }, true)
+    );
 }
 
 /// The ground of each row of a plan.
@@ -354,7 +388,8 @@ fn ground_lies_between_the_largest_row_and_the_sum() {
             let common = intersection(*a, *b);
             !is_empty(common) && area(common) > 0
         };
-        assert!(told.ground <= told.area && rects.iter().all(|&r| area(r) <= told.ground));
+        let (area_sum, ground) = (told.area.value(), told.ground.value());
+        assert!(ground <= area_sum && rects.iter().all(|&r| u128::from(area(r)) <= ground));
         let shared = (0..rects.len()).any(|i| rects[..i].iter().any(|r| over(r, &rects[i])));
         assert_eq!(told.ground == told.area, !shared, "{plan:?}");
         apart += u64::from(!shared && rects.len() > 1);
@@ -380,7 +415,7 @@ fn a_work_buffer_of_two_cells_a_row() {
         let (mut cells, mut lent) = (vec![77; table], vec![77; work]);
         let told = REFERENCE.run(&plan_d().shape, &plan_d().cells, &order(&plan_d()), &mut cells, &mut lent);
         if told.number != 0 {
-            assert_eq!((told.ground, cells, lent), (0, vec![77; table], vec![77; work]));
+            assert_eq!((told.ground, cells, lent), (Total::NONE, vec![77; table], vec![77; work]));
         }
         told.number
     };
@@ -395,8 +430,8 @@ fn the_ground_of_the_forecourt_is_counted_once() {
     cells.truncate(4 * shape.sizes.iter().sum::<u32>() as usize);
     let plan = Plan { shape, cells };
     let told = run(&plan, 1_000).0;
-    assert_eq!((told.rows, told.trials, told.area), (7, 232, 1_340_000));
-    assert_eq!(told.ground, union_of(&grounds(&plan)));
+    assert_eq!((told.rows, told.trials, told.area.value()), (7, 232, 1_340_000));
+    assert_eq!(told.ground, Total::of(union_of(&grounds(&plan)).into()));
     let printed = format!("TOTAL\t7\t232\t{}\n", square_metres(told.ground));
     assert!(report(text).ends_with(printed.as_bytes()));
 }

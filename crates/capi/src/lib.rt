@@ -314,7 +314,7 @@ pub extern "C" fn overlay_fresh_ticket(
 }
 
 // A page of the walk from a ticket on; the ticket's cells are left with what is due next, and the counter, the run record, with its count. The answer's cells:
-// why it stopped, rows, probes, area.
+// why it stopped, rows, probes, metres and rest of the area sum.
 #[no_mangle]
 pub extern "C" fn overlay_fetch_page(
     k: u32,
@@ -326,7 +326,7 @@ pub extern "C" fn overlay_fetch_page(
     counter: &mut [u64],
     budget: u32,
     table: &mut [u32],
-    answer: &mut [u64; 4],
+    answer: &mut [u64; 5],
 ) -> u32
     ensures number { λ r. ⌜ r ≡ pageCause (shapeOf k (now (sizes .entry)) (now (margins .entry))) (now (cells .entry)) (now (order .entry)) (ticketIn (now (ticket .entry))) (now (counter .entry)) ⌝ }
     ensures answer { λ _. ⌜ now (answer .exit) ≡ pageCells (pageCall (shapeOf k (now (sizes .entry)) (now (margins .entry))) (now (cells .entry)) (now (order .entry)) (ticketIn (now (ticket .entry))) (now (counter .entry)) budget (now (table .entry))) ⌝ }
@@ -357,7 +357,7 @@ pub extern "C" fn overlay_fetch_page(
 }
 
 // A page of the timed walk from a ticket on, with a window of the week for each rectangle, two cells, in `hours`; the ticket's cells are left with what is due next, and the counter, the run record, with its count. The answer's cells:
-// why it stopped, rows, probes, area.
+// why it stopped, rows, probes, metres and rest of the area sum.
 #[no_mangle]
 pub extern "C" fn overlay_timed_page(
     k: u32,
@@ -370,7 +370,7 @@ pub extern "C" fn overlay_timed_page(
     counter: &mut [u64],
     budget: u32,
     table: &mut [u32],
-    answer: &mut [u64; 4],
+    answer: &mut [u64; 5],
 ) -> u32
     ensures number { λ r. ⌜ r ≡ timedPageCause (shapeOf k (now (sizes .entry)) (now (margins .entry))) (now (cells .entry)) (now (hours .entry)) (now (order .entry)) (ticketIn (now (ticket .entry))) (now (counter .entry)) ⌝ }
     ensures answer { λ _. ⌜ now (answer .exit) ≡ pageCells (timedPageCall (shapeOf k (now (sizes .entry)) (now (margins .entry))) (now (cells .entry)) (now (hours .entry)) (now (order .entry)) (ticketIn (now (ticket .entry))) (now (counter .entry)) budget (now (table .entry))) ⌝ }
@@ -403,7 +403,7 @@ pub extern "C" fn overlay_timed_page(
 
 // A round: m clients, served in turn from a given first one, each from its ticket on into its part of the table, within a budget of probes in all. The
 // cells of sixteen tickets are left with what is due next to each of the m, and the counters, their run records, with the counts; `next` is the client that
-// the next round starts with. The answer's cells, four for each of sixteen clients: why its page stopped, rows, probes, area.
+// the next round starts with. The answer's cells, five for each of sixteen clients: why its page stopped, rows, probes, metres and rest of the area sum.
 #[no_mangle]
 pub extern "C" fn overlay_round(
     k: u32,
@@ -418,7 +418,7 @@ pub extern "C" fn overlay_round(
     counters: &mut [u64],
     table: &mut [u32],
     next: &mut u32,
-    answer: &mut [u64; 64],
+    answer: &mut [u64; 80],
 ) -> u32
     ensures number { λ r. ⌜ r ≡ roundCause (request (shapeOf k (now (sizes .entry)) (now (margins .entry))) (now (cells .entry)) (now (order .entry)) m first budget (ticketsIn (now (tickets .entry))) (now (counters .entry)) (now (table .entry))) ⌝ }
     ensures next { λ _. ⌜ now (next .exit) ≡ roundCall (request (shapeOf k (now (sizes .entry)) (now (margins .entry))) (now (cells .entry)) (now (order .entry)) m first budget (ticketsIn (now (tickets .entry))) (now (counters .entry)) (now (table .entry))) .next ⌝ }
@@ -451,7 +451,7 @@ pub extern "C" fn overlay_round(
     told.number
 }
 
-// All rows of a plan's table. The answer's cells: rows, probes, area, ground counted once.
+// All rows of a plan's table. The answer's cells: rows, probes, metres and rest of the area sum, and of the ground counted once.
 #[no_mangle]
 pub extern "C" fn overlay_run_all(
     k: u32,
@@ -461,7 +461,7 @@ pub extern "C" fn overlay_run_all(
     order: &[u32],
     table: &mut [u32],
     work: &mut [i32],
-    answer: &mut [u64; 4],
+    answer: &mut [u64; 6],
 ) -> u32
     ensures number { λ r. ⌜ r ≡ runValues (runCall (shapeOf k (now (sizes .entry)) (now (margins .entry))) (now (cells .entry)) (now (order .entry)) (now (table .entry)) (length (now (work .entry)))) .number ⌝ }
     ensures answer { λ _. ⌜ now (answer .exit) ≡ runCells (runValues (runCall (shapeOf k (now (sizes .entry)) (now (margins .entry))) (now (cells .entry)) (now (order .entry)) (now (table .entry)) (length (now (work .entry))))) ⌝ }
@@ -496,7 +496,7 @@ pub extern "C" fn overlay_timed_run(
     order: &[u32],
     table: &mut [u32],
     work: &mut [i32],
-    answer: &mut [u64; 4],
+    answer: &mut [u64; 6],
 ) -> u32
     ensures number { λ r. ⌜ r ≡ runValues (timedRunCall (shapeOf k (now (sizes .entry)) (now (margins .entry))) (now (cells .entry)) (now (hours .entry)) (now (order .entry)) (now (table .entry)) (length (now (work .entry)))) .number ⌝ }
     ensures answer { λ _. ⌜ now (answer .exit) ≡ runCells (runValues (timedRunCall (shapeOf k (now (sizes .entry)) (now (margins .entry))) (now (cells .entry)) (now (hours .entry)) (now (order .entry)) (now (table .entry)) (length (now (work .entry))))) ⌝ }
@@ -560,7 +560,7 @@ pub extern "C" fn overlay_crossing_report(
     order: &[u32],
     table: &mut [u32],
     work: &mut [i32],
-    answer: &mut [u64; 4],
+    answer: &mut [u64; 6],
     counts: &mut [u32; 17],
 ) -> u32
     ensures number { λ r. ⌜ r ≡ runValues (crossingCall (shapeOf k (now (sizes .entry)) (now (margins .entry))) (now (cells .entry)) (now (order .entry)) (now (table .entry)) (length (now (work .entry))) .run) .number ⌝ }

@@ -127,13 +127,22 @@ ground-holds =
     also (refl, refl)
     also (refl, refl)
     also (refl, refl)
+    also (refl, refl)
+    also (refl, refl)
     also one-layer 512 (lit≤ tt)
     also refl
-    also refl
-    also refl
-    also refl
-    also refl
-    also refl
+    also (refl, refl)
+    also (refl, refl)
+    also (refl, refl)
+    also (refl, refl)
+    also (refl, refl)
+    also (refl, refl)
+    also (refl, refl)
+    also (refl, refl)
+    also (refl, refl)
+    also (refl, refl)
+    also (refl, refl)
+    also (refl, refl)
     also report-with dText 250000 refl refl union-d
     also report-with smallText 9800 refl refl union-small
     also report-with twiceText 1000000 refl refl union-twice
@@ -154,6 +163,15 @@ ground-holds =
     also (refl, refl)
     also (refl, refl)
     also (refl, refl)
+    also (refl, refl)
+    also (refl, refl)
+    also (refl, refl)
+    also (refl, refl)
+    also refl
+    also refl
+    also refl
+    also (refl, refl, refl)
+    also (refl, refl, refl, refl, refl, refl, refl, tt)
     also (refl, refl)
     also (refl, refl)
     also (refl, refl)

@@ -10,7 +10,7 @@ use Prim.Native.String as String
 use lib.IntN.{ℤ, pos, negℤ}
 use lib.ListN.{length, replicate}
 use Rattle.lists.specs.Lists.{All}
-use Rattle.totals.specs.Totals.{valueOf}
+use Rattle.totals.specs.Totals.{totalOf, valueOf}
 use Rattle.plan.specs.declared.Shape.{Shape}
 use Rattle.plan.specs.Plan.{sizesOf, planCause, grown}
 use Rattle.sweep.specs.Sweep.{sweepOrder}
@@ -36,14 +36,16 @@ pub record Told : Type 0 where
   pub area : ℕ
   pub kind : ℕ
 
--- a page call's budget and table, and what it must answer: stop, rows, probes, area, the table afterwards, the ticket
+-- a page call's budget and table, and what it must answer: stop, rows, probes, the area sum as whole square metres and a rest, the table afterwards, the
+-- ticket
 pub record Turn : Type 0 where
   pub budget : ℕ
   pub table : List ℕ
   pub stop : Stop
   pub rows : ℕ
   pub probes : ℕ
-  pub area : ℕ
+  pub metres : ℕ
+  pub rest : ℕ
   pub after : List ℕ
   pub due : Ticket
 
@@ -60,8 +62,8 @@ pub data Case : Type 0 where
   Paged : Shape → List ℤ → List Turn → Case
   -- a ticket and a counter, and the cause of a page call that brings them, or 0
   Judged : Shape → List ℤ → Ticket → List ℕ → ℕ → Case
-  -- an area sum, and the square metres that are printed for it
-  Rounded : ℕ → List ℕ → Case
+  -- an area sum, the whole square metres and the rest that it is kept as, and the square metres that are printed for it
+  Rounded : (areaSum metres rest : ℕ) → List ℕ → Case
   -- a text, and what is printed for it
   Reported : List ℕ → List ℕ → Case
 
@@ -80,7 +82,7 @@ Turns s cells t counter (x ∷ xs) =
     let order = sweepOrder (grown s cells) in
     let p = pageCall s cells order t counter (x .budget) (x .table) in
     let counted = pageCounter s cells order t counter (x .budget) (x .table) in
-    (p .stop ≡ x .stop) × (p .rows ≡ x .rows) × (p .probes ≡ x .probes) × (valueOf (p .area) ≡ x .area)
+    (p .stop ≡ x .stop) × (p .rows ≡ x .rows) × (p .probes ≡ x .probes) × (p .area ≡ record { metres = x .metres; rest = x .rest })
     × (pageTable s cells order t counter (x .budget) (x .table) ≡ x .after)
     × (p .ticket ≡ x .due)
     × (counted ≡ x .due .count ∷ [])
@@ -93,12 +95,16 @@ Holds (Fresh s cells c) = (freshCall s cells (sweepOrder (grown s cells)) (7 ∷
 Holds (Read t cells r after) = (readAnswer (length cells) t ≡ r) × (cellsAfter t cells ≡ after)
 Holds (Paged s cells ts) = Turns s cells (freshCall s cells (sweepOrder (grown s cells)) (7 ∷ []) .ticket) (freshCounter s cells (sweepOrder (grown s cells)) (7 ∷ [])) ts
 Holds (Judged s cells t counter cause) = pageCause s cells (sweepOrder (grown s cells)) t counter ≡ cause
-Holds (Rounded area printed) = squareMetres (hundredths area) ≡ printed
+Holds (Rounded areaSum metres rest printed) = (totalOf areaSum ≡ record { metres = metres; rest = rest }) × (squareMetres (hundredths (valueOf (totalOf areaSum))) ≡ printed)
 Holds (Reported t printed) = reportOf t ≡ printed
 
 -- ---- the plans
 abbrev pub box : (left bottom right top : ℕ) → List ℤ → List ℤ
 box l b r t rest = pos l ∷ pos b ∷ pos r ∷ pos t ∷ rest
+
+-- the largest rectangle of a plan
+abbrev pub widest : List ℤ → List ℤ
+widest rest = negℤ (pos 10000000) ∷ negℤ (pos 10000000) ∷ pos 10000000 ∷ pos 10000000 ∷ rest
 
 abbrev pub margined : (first second third : ℕ) (k a b c : ℕ) → Shape
 margined m n o k a b c = record { k = k; sizes = a ∷ b ∷ c ∷ 0 ∷ 0 ∷ 0 ∷ []; margins = m ∷ n ∷ o ∷ 0 ∷ 0 ∷ 0 ∷ [] }
@@ -117,9 +123,9 @@ G = 71
 abbrev pub E : ℕ
 E = 69
 
-abbrev pub turn : ℕ → List ℕ → Stop → (rows probes area : ℕ) → List ℕ → Ticket → Turn
-turn budget table stop rows probes area after due =
-    record { budget = budget; table = table; stop = stop; rows = rows; probes = probes; area = area; after = after; due = due }
+abbrev pub turn : ℕ → List ℕ → Stop → (rows probes metres rest : ℕ) → List ℕ → Ticket → Turn
+turn budget table stop rows probes metres rest after due =
+    record { budget = budget; table = table; stop = stop; rows = rows; probes = probes; metres = metres; rest = rest; after = after; due = due }
 
 -- the cursor of a probe of the first slot: the guard's layer and place, and the place to try
 abbrev pub first : (layer place next : ℕ) → Cursor
@@ -160,7 +166,7 @@ abbrev pub bytes : String → List ℕ
 bytes String.[] = []
 bytes (String._∷_ c s) = code c ∷ bytes s
 
--- a text that is sound where the right of its RECT, spelled so, is from 0 to 1000000
+-- a text that is sound where the right of its RECT, spelled so, is from 0 to 10000000
 abbrev pub textWith : String → List ℕ
 textWith right = bytes "PLAN\t2\nLAYER\t1\t0\nRECT\t0\t0\t" ++ bytes right ++ bytes "\t5\nLAYER\t0\t0\n"
 
@@ -227,11 +233,11 @@ cases =
     -- "D: two rows, four trials." 02: "the first row is G, the second E"
     Listed d dCells (row 2 (0 ∷ 0 ∷ []) 250000 G ∷ row 1 (1 ∷ 0 ∷ []) 0 E ∷ []) 4
     -- "D, budget 2, ten cells: one row, Spent; again: one row, Ended."
-    ∷ Paged d dCells (turn 2 (ten 7 7) Spent 1 2 250000 (ten 0 0) (counting (first 2 0 1) 2) ∷ turn 2 (ten 7 7) Ended 1 2 0 (ten 1 0) (counting endedCursor 4) ∷ [])
+    ∷ Paged d dCells (turn 2 (ten 7 7) Spent 1 2 0 250000 (ten 0 0) (counting (first 2 0 1) 2) ∷ turn 2 (ten 7 7) Ended 1 2 0 0 (ten 1 0) (counting endedCursor 4) ∷ [])
     -- "D, a table of two cells, budget 9: two trials, Full; again: two trials, Ended."
-    ∷ Paged d dCells (turn 9 (two 7 7) Full 1 2 250000 (two 0 0) (counting (first 2 0 1) 2) ∷ turn 9 (two 7 7) Ended 1 2 0 (two 1 0) (counting endedCursor 4) ∷ [])
+    ∷ Paged d dCells (turn 9 (two 7 7) Full 1 2 0 250000 (two 0 0) (counting (first 2 0 1) 2) ∷ turn 9 (two 7 7) Ended 1 2 0 0 (two 1 0) (counting endedCursor 4) ∷ [])
     -- "D, budget 0 and no cells: Full."
-    ∷ Paged d dCells (turn 0 [] Full 0 0 0 [] (counting (first 1 0 0) 0) ∷ [])
+    ∷ Paged d dCells (turn 0 [] Full 0 0 0 0 [] (counting (first 1 0 0) 0) ∷ [])
     -- "One equal rectangle in each of two layers: one row, guard in layer 1, two trials."
     ∷ Listed (shape 2 1 1 0) twoAlike (row 1 (0 ∷ 0 ∷ []) 4 G ∷ []) 2
     -- "Sizes 1 and 0: no trials, fresh ticket Ended."
@@ -242,10 +248,13 @@ cases =
     -- "the right of one at 9 and the left of the other at 10: no row; at 10 and 10: a row"
     ∷ Listed (shape 2 1 1 0) (box 0 0 9 5 (box 10 0 20 5 [])) [] 2
     ∷ Listed (shape 2 1 1 0) (box 0 0 10 5 (box 10 0 20 5 [])) (row 2 (0 ∷ 0 ∷ []) 0 E ∷ []) 2
-    -- "As the right of a RECT at left 0, in a text otherwise sound: -0 and 07 give 9; 1000001 gives 10; 1000000 is read."
+    -- "As the right of a RECT at left 0, in a text otherwise sound: -0 and 07 give 9; .. 1000000 is read." 02, Q-13: "1000001 in 01's case is then read, 10000001
+    -- gives 10"
     ∷ isRefused (textWith "-0") 9
     ∷ isRefused (textWith "07") 9
-    ∷ isRefused (textWith "1000001") 10
+    ∷ isRefused (textWith "10000001") 10
+    ∷ Read (textWith "1000001") (box 7 7 7 7 (pos 7 ∷ [])) (record { number = 0; shape = shape 2 1 0 0 }) (box 0 0 1000001 5 (pos 7 ∷ []))
+    ∷ Read (textWith "10000000") (box 7 7 7 7 (pos 7 ∷ [])) (record { number = 0; shape = shape 2 1 0 0 }) (box 0 0 10000000 5 (pos 7 ∷ []))
     ∷ Read (textWith "1000000") (box 7 7 7 7 (pos 7 ∷ [])) (record { number = 0; shape = shape 2 1 0 0 }) (box 0 0 1000000 5 (pos 7 ∷ []))
     -- "Empty text gives 9. A text without its last byte 10 gives 9."
     ∷ isRefused [] 9
@@ -254,12 +263,21 @@ cases =
     ∷ Caused (shape 2 512 0 0) (alike 512) 0
     ∷ Caused (shape 2 513 0 0) [] 2
     -- "4,999 gives 0.00, 5,000 gives 0.01"
-    ∷ Rounded 4999 (bytes "0.00")
-    ∷ Rounded 5000 (bytes "0.01")
-    ∷ Rounded 250000 (bytes "0.25")
-    -- rounding reaches the digits before the point
-    ∷ Rounded 9994999 (bytes "9.99")
-    ∷ Rounded 9995000 (bytes "10.00")
+    ∷ Rounded 4999 0 4999 (bytes "0.00")
+    ∷ Rounded 5000 0 5000 (bytes "0.01")
+    ∷ Rounded 250000 0 250000 (bytes "0.25")
+    -- 02, Q-13: "Rounding up at half a hundredth carries into the whole metres."
+    ∷ Rounded 994999 0 994999 (bytes "0.99")
+    ∷ Rounded 995000 0 995000 (bytes "1.00")
+    ∷ Rounded 9994999 9 994999 (bytes "9.99")
+    ∷ Rounded 9995000 9 995000 (bytes "10.00")
+    ∷ Rounded 999995000 999 995000 (bytes "1000.00")
+    -- "a rest below 1,000,000 square millimetres"
+    ∷ Rounded 999999 0 999999 (bytes "1.00")
+    ∷ Rounded 1000000 1 0 (bytes "1.00")
+    ∷ Rounded 1000001 1 1 (bytes "1.00")
+    -- ours: 1,000,000 rows of the largest area, which passes 2^64 square millimetres
+    ∷ Rounded 404010000000000000000 404010000000000 0 (bytes "404010000000000.00")
     -- "For the plan D .. it prints"
     ∷ Reported dText dReport
     -- of two areas that are rounded to 0.00 each, the sum is rounded to 0.01
@@ -270,9 +288,9 @@ cases =
     ∷ Reported cornerText cornerReport
     -- ours: a refusal, in bytes
     ∷ Reported [] refusedNine
-    -- ours: a text in bytes, with numbers below 0 and a left that is not the bottom; a number of eight digits
+    -- ours: a text in bytes, with numbers below 0 and a left that is not the bottom; a number of nine digits
     ∷ Read (bytesWith (50 ∷ 48 ∷ [])) (box 7 7 7 7 (pos 7 ∷ [])) (record { number = 0; shape = shape 2 1 0 0 }) (negℤ (pos 30) ∷ negℤ (pos 4) ∷ pos 20 ∷ pos 5 ∷ pos 7 ∷ [])
-    ∷ isRefused (bytesWith (49 ∷ 48 ∷ 48 ∷ 48 ∷ 48 ∷ 48 ∷ 48 ∷ 48 ∷ [])) 9
+    ∷ isRefused (bytesWith (49 ∷ 48 ∷ 48 ∷ 48 ∷ 48 ∷ 48 ∷ 48 ∷ 48 ∷ 48 ∷ [])) 9
     -- ours: a second PLAN line, and one that is not first, give 9; too few layers, too many rectangles and RECT before LAYER give 10
     ∷ isRefused (bytes "PLAN\t2\nPLAN\t2\nLAYER\t0\t0\nLAYER\t0\t0\n") 9
     ∷ isRefused (bytes "LAYER\t0\t0\nPLAN\t1\n") 9
@@ -287,14 +305,28 @@ cases =
     ∷ Read (bytes "PLAN\t2\nLAYER\t0\t50000\nLAYER\t0\t7\n") (box 7 7 7 7 []) (record { number = 0; shape = margined 50000 7 0 2 0 0 0 }) (box 7 7 7 7 [])
     ∷ isRefused (bytes "PLAN\t2\nLAYER\t0\t50001\nLAYER\t0\t0\n") 10
     ∷ isRefused (bytes "PLAN\t2\nLAYER\t0\t-1\nLAYER\t0\t0\n") 10
-    -- a margin is a number like the others: up to seven digits, none of them a leading 0
-    ∷ isRefused (bytes "PLAN\t2\nLAYER\t0\t9999999\nLAYER\t0\t0\n") 10
-    ∷ isRefused (bytes "PLAN\t2\nLAYER\t0\t10000000\nLAYER\t0\t0\n") 9
+    -- a margin is a number like the others: up to eight digits, none of them a leading 0
+    ∷ isRefused (bytes "PLAN\t2\nLAYER\t0\t99999999\nLAYER\t0\t0\n") 10
+    ∷ isRefused (bytes "PLAN\t2\nLAYER\t0\t100000000\nLAYER\t0\t0\n") 9
     ∷ isRefused (bytes "PLAN\t2\nLAYER\t0\t07\nLAYER\t0\t0\n") 9
     ∷ isRefused (bytes "PLAN\t2\nLAYER\t0\t-0\nLAYER\t0\t0\n") 9
     -- "the text take it ungrown": rectangles are read as they stand, whatever the margins of their layers, which go to the layers in their order
-    ∷ Read (bytes "PLAN\t3\nLAYER\t1\t50000\nRECT\t1000000\t2\t1000000\t3\nLAYER\t0\t7\nLAYER\t1\t40\nRECT\t4\t5\t6\t7\n") (alike 2)
-    (record { number = 0; shape = margined 50000 7 40 3 1 0 1 }) (box 1000000 2 1000000 3 (box 4 5 6 7 []))
+    ∷ Read (bytes "PLAN\t3\nLAYER\t1\t50000\nRECT\t10000000\t2\t10000000\t3\nLAYER\t0\t7\nLAYER\t1\t40\nRECT\t4\t5\t6\t7\n") (alike 2)
+    (record { number = 0; shape = margined 50000 7 40 3 1 0 1 }) (box 10000000 2 10000000 3 (box 4 5 6 7 []))
+    -- 02, Q-13: "Coordinates widen to 10,000,000 either way of 0"
+    ∷ Caused (shape 2 1 0 0) (widest []) 0
+    ∷ Caused (shape 2 1 0 0) (box 0 0 10000001 5 []) 4
+    ∷ Caused (shape 2 1 0 0) (negℤ (pos 10000001) ∷ pos 0 ∷ pos 0 ∷ pos 5 ∷ []) 4
+    -- "A row's area, now at most 4.0401 × 10^14, stays in square millimetres"
+    ∷ Listed (margined 50000 50000 0 2 1 1 0) (widest (widest [])) (row 1 (0 ∷ 0 ∷ []) 404010000000000 G ∷ []) 2
+    -- "every area sum .. kept as whole square metres and a rest": a page of rows of 1,000,000 and 1,001,000 square millimetres
+    ∷ Paged (shape 2 1 2 0) (box 0 0 1000 2001 (box 0 0 1000 1000 (box 0 1000 1000 2001 [])))
+    (turn 9 (ten 7 7) Ended 2 4 2 1000 (0 ∷ 0 ∷ 0 ∷ 1 ∷ 7 ∷ 7 ∷ 7 ∷ 7 ∷ 7 ∷ 7 ∷ []) (counting endedCursor 4) ∷ [])
+    -- in a text 10, below the range and in the other places of a RECT line
+    ∷ isRefused (bytes "PLAN\t2\nLAYER\t1\t0\nRECT\t-10000001\t0\t0\t5\nLAYER\t0\t0\n") 10
+    ∷ isRefused (bytes "PLAN\t2\nLAYER\t1\t0\nRECT\t0\t-10000001\t0\t5\nLAYER\t0\t0\n") 10
+    ∷ isRefused (bytes "PLAN\t2\nLAYER\t1\t0\nRECT\t0\t0\t0\t10000001\nLAYER\t0\t0\n") 10
+    ∷ Read (bytes "PLAN\t2\nLAYER\t1\t0\nRECT\t-10000000\t-10000000\t10000000\t10000000\nLAYER\t0\t0\n") (alike 1) (record { number = 0; shape = shape 2 1 0 0 }) (widest [])
     -- 02: "old LAYER lines are no longer well formed"
     ∷ isRefused (bytes "PLAN\t2\nLAYER\t0\nLAYER\t0\n") 9
     -- a margin of 1 closes a gap of 1: the two touch
@@ -305,7 +337,7 @@ cases =
     ∷ Listed (shape 3 2 1 2) three (row 2 (0 ∷ 0 ∷ 0 ∷ []) 50 G ∷ row 2 (0 ∷ 0 ∷ 1 ∷ []) 30 G ∷ row 2 (1 ∷ 0 ∷ 0 ∷ []) 45 G ∷ row 2 (1 ∷ 0 ∷ 1 ∷ []) 27 G ∷ []) 16
     -- ours: a page of the same plan that stops with one slot filled: the ticket of the last trial but one
     ∷ Paged (shape 3 2 1 2) three
-    (turn 15 (7 ∷ 7 ∷ ten 7 7) Spent 3 15 125 (0 ∷ 0 ∷ 0 ∷ 0 ∷ 0 ∷ 1 ∷ 1 ∷ 0 ∷ 0 ∷ 7 ∷ 7 ∷ 7 ∷ []) (counting (record { ended = false; layer = 2; place = 0; filled = 1; chosen = 1 ∷ 0 ∷ 0 ∷ 0 ∷ 0 ∷ []; next = 1 }) 15) ∷ [])
+    (turn 15 (7 ∷ 7 ∷ ten 7 7) Spent 3 15 0 125 (0 ∷ 0 ∷ 0 ∷ 0 ∷ 0 ∷ 1 ∷ 1 ∷ 0 ∷ 0 ∷ 7 ∷ 7 ∷ 7 ∷ []) (counting (record { ended = false; layer = 2; place = 0; filled = 1; chosen = 1 ∷ 0 ∷ 0 ∷ 0 ∷ 0 ∷ []; next = 1 }) 15) ∷ [])
     -- ours, of Q-5: the fresh ticket of D again, and an Ended, after more trials; a record of no cell and of two; a ticket that check 6 refuses first; 2^57 − 1
     -- and 2^57
     ∷ Judged d dCells (counting (first 1 0 0) 0) (0 ∷ []) 0

@@ -20,8 +20,7 @@ use Rattle.geometry.specs.Rectangles.{letterOf}
 use Rattle.geometry.proofs.Machine.{Fitting}
 use Rattle.plan.specs.Causes.{onCause}
 use Rattle.totals.specs.declared.Total.{Total}
-use Rattle.totals.specs.Totals.{valueOf}
-use Rattle.totals.proofs.Totals.{value-total}
+use Rattle.totals.specs.Totals.{totalOf}
 use Rattle.survey.specs.declared.Strip.the-variants.{Between}
 use Rattle.paging.specs.declared.Run.{Run}
 use Rattle.paging.specs.declared.Run.the-variants.{Refused, Done}
@@ -62,12 +61,13 @@ after-due given p n told none = sym (ap (λ m. onCause m (ticketCells (p .ticket
 
 -- ---- whole runs
 -- a refusal has cells of 0
-pub run-none : {r : Run} {cause : ℕ} → Refused cause ≡ r → 0 ∷ 0 ∷ 0 ∷ 0 ∷ [] ≡ runCells (runValues r)
-run-none e = ap (λ (n : ℕ). 0 ∷ 0 ∷ n ∷ n ∷ []) (sym (value-total 0)) ∙ ap (λ (a : Run). runCells (runValues a)) e
+pub run-none : {r : Run} {cause : ℕ} → Refused cause ≡ r → 0 ∷ 0 ∷ 0 ∷ 0 ∷ 0 ∷ 0 ∷ [] ≡ runCells (runValues r)
+unfolding totalOf
+run-none e = ap (λ (a : Run). runCells (runValues a)) e
 
 -- an acceptance those of its values
-pub run-some : {r : Run} {rows probes : ℕ} {area ground : Total} (v u : ℕ) → v ≡ valueOf area → u ≡ valueOf ground → Done rows probes area ground ≡ r → rows ∷ probes ∷ v ∷ u ∷ [] ≡ runCells (runValues r)
-run-some {rows = rows} {probes = probes} v u p q e = ap₂ (λ (n m : ℕ). rows ∷ probes ∷ n ∷ m ∷ []) p q ∙ ap (λ (a : Run). runCells (runValues a)) e
+pub run-some : {r : Run} {rows probes : ℕ} {area ground : Total} → Done rows probes area ground ≡ r → rows ∷ probes ∷ area .metres ∷ area .rest ∷ ground .metres ∷ ground .rest ∷ [] ≡ runCells (runValues r)
+run-some e = ap (λ (a : Run). runCells (runValues a)) e
 
 -- ---- a row's common ground
 letter-small : (k : Kind) → letterOf k < 128

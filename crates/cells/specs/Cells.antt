@@ -6,7 +6,6 @@ use lib.Dec.{eqb, leb}
 use lib.ListN.{getD}
 use lib.IntN.{ℤ, pos}
 use lib.Ieee.{Float, nan}
-use Rattle.totals.specs.Totals.{valueOf}
 use Rattle.plan.specs.declared.Shape.{Shape}
 use Rattle.plan.specs.Causes.{onCause}
 use Rattle.rows.specs.RowCall.{RowValues, CommonValues}
@@ -48,7 +47,7 @@ cursorIn l =
 abbrev pub ticketIn : List ℕ → Ticket
 ticketIn l = record { cursor = cursorIn l; count = getD l 10 0 + getD l 11 0 * 4294967296 }
 
--- ---- pages: why it stopped (1 Ended, 2 Full, 3 Spent), rows, probes, area
+-- ---- pages: why it stopped (1 Ended, 2 Full, 3 Spent), rows, probes, the whole square metres of the area sum, and its rest in square millimetres
 abbrev pub stopCode : Stop → ℕ
 stopCode Ended = 1
 stopCode Full = 2
@@ -56,15 +55,15 @@ stopCode Spent = 3
 stopCode (Refused cause) = 0
 
 abbrev pub pageCells : Page → List ℕ
-pageCells p = stopCode (p .stop) ∷ p .rows ∷ p .probes ∷ valueOf (p .area) ∷ []
+pageCells p = stopCode (p .stop) ∷ p .rows ∷ p .probes ∷ p .area .metres ∷ p .area .rest ∷ []
 
 -- the ticket's cells afterwards: the ticket for what is due next, or after a refusal what they were
 abbrev pub ticketAfter : List ℕ → Page → List ℕ
 ticketAfter given p = onCause (stopNumber (p .stop)) (ticketCells (p .ticket)) (λ n. given)
 
--- ---- whole runs: rows, probes, area, ground counted once
+-- ---- whole runs: rows, probes, the metres and the rest of the area sum, and those of the ground counted once
 abbrev pub runCells : RunValues → List ℕ
-runCells v = v .rows ∷ v .probes ∷ valueOf (v .area) ∷ valueOf (v .ground) ∷ []
+runCells v = v .rows ∷ v .probes ∷ v .area .metres ∷ v .area .rest ∷ v .ground .metres ∷ v .ground .rest ∷ []
 
 -- ---- rows: the guard's layer, area
 abbrev pub rowCells : RowValues → List ℕ

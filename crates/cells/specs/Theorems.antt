@@ -8,7 +8,6 @@ use lib.IntN.{ℤ, pos}
 use lib.ListN.{getD}
 use lib.Ieee.{Float}
 use Rattle.totals.specs.declared.Total.{Total}
-use Rattle.totals.specs.Totals.{valueOf}
 use Rattle.plan.specs.declared.Shape.{Shape}
 use Rattle.plan.specs.Plan.{Typed}
 use Rattle.search.specs.declared.Stop.{Stop}
@@ -51,11 +50,11 @@ pub record ShapesInCells : Type 0 where
 
 -- what calls answer, cell by cell
 pub record AnswersInCells : Type 0 where
-  -- a page: why it stopped (above), rows, probes and area; the first cell is 0 after a refusal
-  pub page : (p : Page) → pageCells p ≡ stopCode (p .stop) ∷ p .rows ∷ p .probes ∷ valueOf (p .area) ∷ []
+  -- 02, Q-13: "kept as whole square metres and a rest": a page is why it stopped (above), rows, probes, metres and rest; the first cell is 0 after a refusal
+  pub page : (p : Page) → pageCells p ≡ stopCode (p .stop) ∷ p .rows ∷ p .probes ∷ p .area .metres ∷ p .area .rest ∷ []
   pub refused : (cause : ℕ) → stopCode (Refused cause) ≡ 0
-  -- a whole run: rows, probes, area, and ground counted once
-  pub run : (number rows probes : ℕ) (area ground : Total) → runCells (record { number = number; rows = rows; probes = probes; area = area; ground = ground }) ≡ rows ∷ probes ∷ valueOf area ∷ valueOf ground ∷ []
+  -- a whole run: rows, probes, the area sum, and ground counted once
+  pub run : (number rows probes : ℕ) (area ground : Total) → runCells (record { number = number; rows = rows; probes = probes; area = area; ground = ground }) ≡ rows ∷ probes ∷ area .metres ∷ area .rest ∷ ground .metres ∷ ground .rest ∷ []
   -- a row: the guard's layer and the area
   pub row : (number layer area : ℕ) → rowCells (record { number = number; layer = layer; area = area }) ≡ layer ∷ area ∷ []
   -- a row's common ground: left, bottom, right and top, then the letter of its kind

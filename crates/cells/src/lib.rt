@@ -14,7 +14,6 @@ use survey::Covering;
 use survey::Strip;
 use sweep::OrderAnswer;
 use text::Writing;
-use totals::value;
 use windows::HoursAnswer;
 ghost use mathlib.Core.Path.{_≡_};
 ghost use mathlib.Core.List.{[], _∷_};
@@ -249,7 +248,7 @@ pub fn stop_code(stop: Stop) -> u64
 }
 
 // The cells of a page.
-pub fn page_cells(page: Page) -> [u64; 4]
+pub fn page_cells(page: Page) -> [u64; 5]
     ensures { λ r. ⌜ r ≡ pageCells page ⌝ }
 {
     let stop = page.stop;
@@ -258,7 +257,8 @@ pub fn page_cells(page: Page) -> [u64; 4]
         stop_code(stop),
         page.rows as u64,
         page.probes as u64,
-        value(area),
+        area.metres,
+        area.rest,
     ]
 }
 
@@ -285,13 +285,20 @@ pub fn run_number(run: Run) -> u32
 }
 
 // The cells of a whole run's answer.
-pub fn run_cells(run: Run) -> [u64; 4]
+pub fn run_cells(run: Run) -> [u64; 6]
     ensures { λ r. ⌜ r ≡ runCells (runValues run) ⌝ }
 {
     match run {
-        Run::Refused(_) => [0, 0, 0, 0],
+        Run::Refused(_) => [0, 0, 0, 0, 0, 0],
         Run::Done(rows, probes, area, ground) => {
-            [rows as u64, probes, value(area), value(ground)]
+            [
+                rows as u64,
+                probes,
+                area.metres,
+                area.rest,
+                ground.metres,
+                ground.rest,
+            ]
         }
     }
 }

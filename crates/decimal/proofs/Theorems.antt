@@ -86,17 +86,17 @@ module _ (m n : ℕ) (most : m ≤ 19) (t : List ℕ) where
 spells : (t : List ℕ) (z : ℤ) → short z ≡ true → t ≡ numeral z → Spells t z
 unfolding numeral
 spells t (pos zero) h e = nought (e ∙ (unfold decimal size in refl)) refl
-spells t (pos (suc n)) h e = plain (suc n) (magnitude-put 6 (suc n) (lit≤ tt) t (omega arith) (ltb-true (suc n) (10 ^ 7) h) e) refl
-spells t (negsuc n) h e = minus (suc n) (decimal (suc n)) e (magnitude-put 6 (suc n) (lit≤ tt) (decimal (suc n)) (omega arith) (ltb-true (suc n) (10 ^ 7) h) refl) refl
+spells t (pos (suc n)) h e = plain (suc n) (magnitude-put 7 (suc n) (lit≤ tt) t (omega arith) (ltb-true (suc n) (10 ^ 8) h) e) refl
+spells t (negsuc n) h e = minus (suc n) (decimal (suc n)) e (magnitude-put 7 (suc n) (lit≤ tt) (decimal (suc n)) (omega arith) (ltb-true (suc n) (10 ^ 8) h) refl) refl
 
 spelt : (t : List ℕ) (z : ℤ) → Spells t z → (short z ≡ true) × (t ≡ numeral z)
 unfolding numeral
 spelt t z (nought e f) = rw (e, f) (refl, (unfold decimal size in refl))
 spelt t z (plain n g f) =
-    let d = magnitude-is 6 n (lit≤ tt) t g in
-    rw f (lt-ltb n (10 ^ 7) (d .2), d .0)
+    let d = magnitude-is 7 n (lit≤ tt) t g in
+    rw f (lt-ltb n (10 ^ 8) (d .2), d .0)
 spelt t z (minus n u e g f) =
-    let d = magnitude-is 6 n (lit≤ tt) u g in
+    let d = magnitude-is 7 n (lit≤ tt) u g in
     rw f (negative-short n (d .2), e ∙ (ap (λ (l : List ℕ). 45 ∷ l) (d .0) ∙ sym (negative-numeral n (d .1))))
 
 no-digit : (e : ℕ) (r : List ℕ) → (e < 48) ⊎ (57 < e) → Stops (e ∷ r)

@@ -24,9 +24,9 @@ unfoldable pub numeral : ℤ → List ℕ
 numeral (pos n) = decimal n
 numeral (negsuc n) = 45 ∷ decimal (suc n)
 
--- the most digits of a number: a first one, and "up to six digits more" (01)
+-- 02, Q-13: "a number in a text may have eight digits", a first one and up to seven more
 abbrev pub mostDigits : ℕ
-mostDigits = 7
+mostDigits = 8
 
 -- a number of no more digits than a text may have
 abbrev pub short : ℤ → Bool

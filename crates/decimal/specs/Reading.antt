@@ -1,4 +1,5 @@
--- Numbers read from the start of a text. 01: "A number is 0, or an optional minus, a digit 1 to 9 and up to six digits more, in base ten."
+-- Numbers read from the start of a text. 01: "A number is 0, or an optional minus, a digit 1 to 9 and up to .. digits more, in base ten"; 02, Q-13: of
+-- eight digits
 use mathlib.Core.List.{List, [], _∷_}
 use mathlib.Core.Option.{Option, none, some}
 use mathlib.Core.Bool.{cond}

@@ -31,11 +31,12 @@ pub record Magnitude (m : ℕ) (t : List ℕ) (n : ℕ) : Type 0 where
   pub text : t ≡ first ∷ others
   pub value : n ≡ valueFrom 0 t
 
--- 01: "A number is 0, or an optional minus, a digit 1 to 9 and up to six digits more, in base ten."
+-- 01: "A number is 0, or an optional minus, a digit 1 to 9 and up to .. digits more, in base ten": seven more, since 02, Q-13, "a number in a text may have
+-- eight digits"
 pub data Spells (t : List ℕ) (z : ℤ) : Type 0 where
   nought : t ≡ 48 ∷ [] → z ≡ pos 0 → Spells t z
-  plain : (n : ℕ) → Magnitude 6 t n → z ≡ pos n → Spells t z
-  minus : (n : ℕ) (u : List ℕ) → t ≡ 45 ∷ u → Magnitude 6 u n → z ≡ negℤ (pos n) → Spells t z
+  plain : (n : ℕ) → Magnitude 7 t n → z ≡ pos n → Spells t z
+  minus : (n : ℕ) (u : List ℕ) → t ≡ 45 ∷ u → Magnitude 7 u n → z ≡ negℤ (pos n) → Spells t z
 
 pub record Numbers : Type 0 where
   -- the bytes that a text may have for a number are those that spell it so ..

@@ -12,7 +12,7 @@ ghost use Rattle.decimal.specs.Places.{isMinus, MoreFrom, sign, zeroAt, 
 ghost use Rattle.lists.specs.Stores.{Put};
 
 // The most digits of a number behind its first: `mostDigits - 1`.
-const MORE: usize = 6;
+const MORE: usize = 7;
 
 // What a byte of a number is, by its range.
 pub enum Kind {

@@ -183,6 +183,16 @@ range-extent r e =
     let h = held-is reach r e in
     is-held extent r (record { left = wide _ (h .left); bottom = wide _ (h .bottom); right = wide _ (h .right); top = wide _ (h .top); across = h .across; upward = h .upward })
 
+-- a coordinate of a smaller range is in range
+old-between : (z : ℤ) → between (pos 1000000) z ≡ true → between reach z ≡ true
+old-between z e = let h = between-is (pos 1000000) z e in is-between reach z (omega zarith)
+
+pub old-range : (r : Rect) → between (pos 1000000) (r .left) ≡ true → between (pos 1000000) (r .bottom) ≡ true → between (pos 1000000) (r .right) ≡ true → between (pos 1000000) (r .top) ≡ true
+    → inRange r ≡ held (pos 1000000) r
+unfolding held
+old-range r w x y z =
+    rw (w, x, y, z, old-between (r .left) w, old-between (r .bottom) x, old-between (r .right) y, old-between (r .top) z) refl
+
 -- what two rectangles in range have in common is in range, if it is anything
 between-max : (b x y : ℤ) → Between b x → Between b y → Between b (maxZ x y)
 between-max b x y p q = omega (zarith, max-law x y)
@@ -216,11 +226,11 @@ area-held n r e =
     let h = held-is (pos n) r e in
     mul-le-mul (side-small n _ _ (h .left) (h .right) (h .across)) (side-small n _ _ (h .bottom) (h .top) (h .upward))
 
-pub range-area : (r : Rect) → inRange r ≡ true → areaOf r ≤ 4000000000000
-range-area r e = area-held 1000000 r e
+pub range-area : (r : Rect) → inRange r ≡ true → areaOf r ≤ 400000000000000
+range-area r e = area-held 10000000 r e
 
 pub extent-area : (r : Rect) → inExtent r ≡ true → areaOf r ≤ mostArea
-extent-area r e = area-held 1050000 r e
+extent-area r e = area-held 10050000 r e
 
 -- ---- margins
 pub grown-sides : (m : ℕ) (r : Rect) → let g = grownBy m r in (g .left +ℤ pos m ≡ r .left) × (g .bottom +ℤ pos m ≡ r .bottom) × (g .right ≡ r .right +ℤ pos m) × (g .top ≡ r .top +ℤ pos m)
@@ -246,17 +256,17 @@ grown-wider m n r x y h i =
     omega (zarith, sub-law (r .left) (pos m), sub-law (r .bottom) (pos m), add-law (r .right) (pos m), add-law (r .top) (pos m), sub-law (r .left) (pos n), sub-law (r .bottom) (pos n), add-law (r .right) (pos n), add-law (r .top) (pos n))
 
 -- a side moved out of the range by a margin
-pub between-out : (z : ℤ) (m : ℕ) → Between reach z → m ≤ 50000 → Between extent (z +ℤ pos m)
-between-out z m p h = omega (zarith, add-law z (pos m))
+pub between-out : (n : ℕ) (z : ℤ) (m : ℕ) → Between (pos n) z → m ≤ 50000 → Between (pos (n + 50000)) (z +ℤ pos m)
+between-out n z m p h = omega (zarith, add-law z (pos m), neg-law (pos n), neg-law (pos (n + 50000)))
 
-pub between-in : (z : ℤ) (m : ℕ) → Between reach z → m ≤ 50000 → Between extent (z -ℤ pos m)
-between-in z m p h = omega (zarith, sub-law z (pos m))
+pub between-in : (n : ℕ) (z : ℤ) (m : ℕ) → Between (pos n) z → m ≤ 50000 → Between (pos (n + 50000)) (z -ℤ pos m)
+between-in n z m p h = omega (zarith, sub-law z (pos m), neg-law (pos n), neg-law (pos (n + 50000)))
 
-pub grown-extent : (m : ℕ) (r : Rect) → inRange r ≡ true → m ≤ 50000 → inExtent (grownBy m r) ≡ true
+pub grown-held : (n m : ℕ) (r : Rect) → held (pos n) r ≡ true → m ≤ 50000 → held (pos (n + 50000)) (grownBy m r) ≡ true
 unfolding grownBy
-grown-extent m r e h =
-    let k = held-is reach r e in
-    is-held extent (grownBy m r) (record { left = between-in _ m (k .left) h; bottom = between-in _ m (k .bottom) h; right = between-out _ m (k .right) h; top = between-out _ m (k .top) h; across = apart _ _ (k .across); upward = apart _ _ (k .upward) })
+grown-held n m r e h =
+    let k = held-is (pos n) r e in
+    is-held (pos (n + 50000)) (grownBy m r) (record { left = between-in n _ m (k .left) h; bottom = between-in n _ m (k .bottom) h; right = between-out n _ m (k .right) h; top = between-out n _ m (k .top) h; across = apart _ _ (k .across); upward = apart _ _ (k .upward) })
   where
     apart : (a b : ℤ) → a ≤ℤ b → (a -ℤ pos m) ≤ℤ (b +ℤ pos m)
     apart a b l = omega (zarith, sub-law a (pos m), add-law b (pos m))

@@ -1,7 +1,7 @@
 -- The promises on common ground hold.
 use mathlib.Core.Path.{refl}
 use Rattle.geometry.specs.Theorems.{CommonGround, Kinds, Growing}
-use Rattle.geometry.proofs.Rectangles.{common-comm, common-assoc, common-same, in-both, in-common, meets-point, point-meets, ranged, in-range, area-exact, range-area, extent-area, grown-sides, grown-none, grown-wider, grown-extent}
+use Rattle.geometry.proofs.Rectangles.{common-comm, common-assoc, common-same, in-both, in-common, meets-point, point-meets, ranged, in-range, area-exact, range-area, extent-area, grown-sides, grown-none, grown-wider, grown-held}
 use Rattle.geometry.proofs.Sides.{handed, not-handed, kind-holds, one-kind, ground-edge, ground-point, edge-point, kind-area}
 
 pub common-ground : CommonGround
@@ -28,4 +28,4 @@ kinds = record {
 }
 
 pub growing : Growing
-growing = record { sides = grown-sides; none = grown-none; wider = grown-wider; extent = grown-extent; area = extent-area }
+growing = record { sides = grown-sides; none = grown-none; wider = grown-wider; extent = grown-held 10000000; area = extent-area }

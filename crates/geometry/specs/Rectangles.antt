@@ -51,13 +51,13 @@ unfoldable pub meeting : Rect → Rect → Meeting
 meeting a b = cond (meets a b) (Common (common a b) (kindOf (common a b))) Apart
 
 -- ---- range
--- 01: "Each coordinate is from −1,000,000 to 1,000,000"
+-- 02, Q-13: "Coordinates widen to 10,000,000 either way of 0"
 abbrev pub reach : ℤ
-reach = pos 1000000
+reach = pos 10000000
 
 -- the range that the walk itself needs: that of a plan's coordinates, and the largest margin around it
 abbrev pub extent : ℤ
-extent = pos 1050000
+extent = pos 10050000
 
 -- z is from −b to b
 unfoldable pub between : ℤ → ℤ → Bool
@@ -93,4 +93,4 @@ areaOf r = natAbs (r .right -ℤ r .left) * natAbs (r .top -ℤ r .bottom)
 
 -- the most that one in the extent has (proofs/Rectangles.antt, `extent-area`)
 abbrev pub mostArea : ℕ
-mostArea = 4410000000000
+mostArea = 404010000000000

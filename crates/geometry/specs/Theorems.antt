@@ -11,9 +11,9 @@ use Rattle.geometry.specs.declared.Kind.the-variants.{Ground, Edge, Poin
 use Rattle.geometry.specs.declared.Meeting.the-variants.{Apart, Common}
 use Rattle.geometry.specs.Rectangles.{In, common, nonempty, meets, kindOf, letterOf, meeting, held, inRange, grownBy, areaOf}
 
--- 01: "Each coordinate is from −1,000,000 to 1,000,000"
+-- 02, Q-13: "Coordinates widen to 10,000,000 either way of 0"
 abbrev pub Coordinate : ℤ → Type 0
-Coordinate z = (negℤ (pos 1000000) ≤ℤ z) × (z ≤ℤ pos 1000000)
+Coordinate z = (negℤ (pos 10000000) ≤ℤ z) × (z ≤ℤ pos 10000000)
 
 -- 01: ".. ; left ≤ right, bottom ≤ top"
 pub record Ranged (r : Rect) : Type 0 where
@@ -37,8 +37,8 @@ pub record CommonGround : Type 0 where
   pub range : (r : Rect) → (inRange r ≡ true) ↔ Ranged r
   -- the area is the width times the height
   pub exact : (r : Rect) (width height : ℕ) → r .right ≡ r .left +ℤ pos width → r .top ≡ r .bottom +ℤ pos height → areaOf r ≡ width * height
-  -- ... and of a rectangle in range at most 4 × 10^12
-  pub area : (r : Rect) → inRange r ≡ true → areaOf r ≤ 4000000000000
+  -- ... and of a rectangle in range at most 4 × 10^14
+  pub area : (r : Rect) → inRange r ≡ true → areaOf r ≤ 400000000000000
 
 -- 02, Q-7: "G with both sides above 0, E with exactly one side 0, P with both 0"
 pub record KindHolds (kind : Kind) (width height : ℕ) : Type 0 where
@@ -69,6 +69,6 @@ pub record Growing : Type 0 where
   pub none : (r : Rect) → grownBy 0 r ≡ r
   -- a larger margin loses no point
   pub wider : (m n : ℕ) (r : Rect) (x y : ℤ) → m ≤ n → In x y (grownBy m r) → In x y (grownBy n r)
-  -- one in range, grown by at most 50,000, is from −1,050,000 to 1,050,000, and its area "at most 4.41 × 10^12"
-  pub extent : (m : ℕ) (r : Rect) → inRange r ≡ true → m ≤ 50000 → held (pos 1050000) (grownBy m r) ≡ true
-  pub area : (r : Rect) → held (pos 1050000) r ≡ true → areaOf r ≤ 4410000000000
+  -- one in range, grown by at most 50,000, is from −10,050,000 to 10,050,000, and its area "at most 4.0401 × 10^14"
+  pub extent : (m : ℕ) (r : Rect) → inRange r ≡ true → m ≤ 50000 → held (pos 10050000) (grownBy m r) ≡ true
+  pub area : (r : Rect) → held (pos 10050000) r ≡ true → areaOf r ≤ 404010000000000

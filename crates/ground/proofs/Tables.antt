@@ -7,17 +7,17 @@ use native.Mathlib.Omega.{arith}
 use lib.IntN.{ℤ}
 use lib.Signed.{_≤ℤ_}
 use lib.ListN.{length, getD}
-use Rattle.lists.specs.Lists.{All, Pairwise}
+use Rattle.lists.specs.Lists.{All, Pairwise, sum}
 use Rattle.lists.proofs.Lists.{all-of-mem, all-of-map, pairwise-of-map, pairwise-with}
 use Rattle.geometry.specs.declared.Rect.{Rect}
-use Rattle.geometry.specs.Rectangles.{extent, inExtent}
+use Rattle.geometry.specs.Rectangles.{extent, held, inExtent}
 use Rattle.geometry.proofs.Integers.{zarith}
-use Rattle.plan.specs.Plan.{Layer, layersOf}
+use Rattle.plan.specs.Plan.{Layer, rectAt, layersOf}
 use Rattle.plan.specs.Spots.{Spot, layerAt, rectOf}
 use Rattle.plan.specs.Frames.{Framed}
 use Rattle.plan.proofs.Spots.{layers-long}
 use Rattle.sweep.specs.Sweep.{Earlier, by-left, by-layer, by-place}
-use Rattle.sweep.proofs.Spots.{rects-ranged}
+use Rattle.sweep.proofs.Spots.{rects-held, rects-ranged}
 use Rattle.join.specs.Join.{InJoin, rects, commonOf, guardOf}
 use Rattle.join.specs.Table.{tableOf, Precedes, by-guard, by-places}
 use Rattle.join.proofs.Theorems.{tables, row-held}
@@ -44,8 +44,14 @@ module _ (ns : List ℕ) (cells : List ℤ) (f : Framed ns cells) where
   abbrev ours : List Layer
   ours = layersOf ns cells
 
+  -- so it is with any range that has each rectangle
+  pub table-held : (b : ℤ) → ((i : ℕ) → i < sum ns → held b (rectAt cells i) ≡ true) → All (λ r. held b r ≡ true) (grounds ours (tableOf ns cells))
+  table-held b h =
+      let v = rects-held b ns cells (f .whole) h in
+      all-of-map (λ row. commonOf (rects ours row)) (all-of-mem (tableOf ns cells) (λ row m. row-held b ours (omega (arith, layers-long ns cells, f .some)) v (tables .tables ns cells f .is .sound row m)))
+
   pub table-ranged : All (λ r. inExtent r ≡ true) (grounds ours (tableOf ns cells))
-  table-ranged = all-of-map (λ row. commonOf (rects ours row)) (all-of-mem (tableOf ns cells) (λ row m. row-ranged ns cells f row (tables .tables ns cells f .is .sound row m)))
+  table-ranged = table-held extent (f .ranged)
 
   guard-left : (row : List ℕ) → List·Memᴰ row (tableOf ns cells) → rectOf ours (guardOf ours row) .left ≡ commonOf (rects ours row) .left
   guard-left row m =

@@ -19,7 +19,7 @@ use Rattle.join.specs.Table.{tableOf}
 use Rattle.ground.specs.Union.{within, covers, unionOf, grounds}
 use Rattle.ground.specs.Theorems.{Holds, UnionHolds, TableUnion, TableUnions, corners}
 use Rattle.ground.proofs.Slabs.{Rises, top, up-to, union-by-cells}
-use Rattle.ground.proofs.Union.{covers-is, is-covers, covered-is, is-covered, same-squares, union-whole, union-same, union-most, union-apart, union-least, union-bound}
+use Rattle.ground.proofs.Union.{covers-is, is-covers, covered-is, is-covered, same-squares, union-whole, union-old, union-same, union-most, union-apart, union-least, union-bound}
 use Rattle.ground.proofs.Tables.{table-ranged, table-lefts}
 
 -- ---- the example, by its lines 0 to 3
@@ -54,6 +54,7 @@ union-holds = record {
     λ k. is-covered x y rs (k .0) (k .1) (is-covers x y (k .0) (k .2)),
   );
   whole = union-whole;
+  old = union-old;
   settled = union-same;
   members = λ rs ss f. union-same rs ss (same-squares rs ss (λ r. f r .0) (λ r. f r .1));
   most = union-most;

@@ -11,7 +11,7 @@ use Rattle.lists.specs.Lists.{All, none-left, _and_, Pairwise, done, _then_, su
 use Rattle.lists.proofs.Tests.{clash, both, and-true, never-true, same-test}
 use Rattle.lists.proofs.Lists.{all-at}
 use Rattle.geometry.specs.declared.Rect.{Rect}
-use Rattle.geometry.specs.Rectangles.{extent, inExtent, areaOf}
+use Rattle.geometry.specs.Rectangles.{extent, held, inExtent, areaOf}
 use Rattle.geometry.proofs.Integers.{zarith, add-law}
 use Rattle.geometry.proofs.Rectangles.{held-is}
 use Rattle.ground.specs.Union.{within, covers, covered, one, over, squares, breadth, unionOf}
@@ -165,6 +165,18 @@ pub union-whole : (rs : List Rect) → All (λ r. inExtent r ≡ true) rs → (a
 unfolding unionOf
 union-whole rs ks a w b h p q r s = wider (negℤ extent) breadth (negℤ extent) breadth (all-extent ks) a w b h p q r s
 
+-- the same of a smaller range, if it holds all of them
+in-old : {rs : List Rect} → All (λ r. held (pos 1050000) r ≡ true) rs → All (Inside (negℤ (pos 1050000)) 2100000 (negℤ (pos 1050000)) 2100000) rs
+in-old none-left = none-left
+in-old (_and_ {a = r} k ks) =
+    let h = held-is (pos 1050000) r k in
+    _and_ (record { left = h .left .0; across = h .across; right = h .right .1; bottom = h .bottom .0; upward = h .upward; top = h .top .1 }) (in-old ks)
+
+pub union-old : (rs : List Rect) → All (λ r. held (pos 1050000) r ≡ true) rs → unionOf rs ≡ squares (covered rs) (negℤ (pos 1050000)) 2100000 (negℤ (pos 1050000)) 2100000
+unfolding unionOf
+union-old rs ks =
+    wider (negℤ (pos 1050000)) 2100000 (negℤ (pos 1050000)) 2100000 (in-old ks) (negℤ extent) breadth (negℤ extent) breadth (record { le = tt }) (record { le = tt }) (record { le = tt }) (record { le = tt })
+
 pub union-same : (rs ss : List Rect) → ((x y : ℤ) → covered rs x y ≡ covered ss x y) → unionOf rs ≡ unionOf ss
 unfolding unionOf
 union-same rs ss e = squares-same (negℤ extent) breadth (negℤ extent) breadth (covered rs) (covered ss) e
@@ -181,6 +193,6 @@ pub union-least : (rs : List Rect) → All (λ r. inExtent r ≡ true) rs → (r
 unfolding unionOf
 union-least rs ks r m = least-in (negℤ extent) breadth (negℤ extent) breadth rs r m (in-extent r (all-at ks m))
 
-pub union-bound : (rs : List Rect) → unionOf rs ≤ 4410000000000
+pub union-bound : (rs : List Rect) → unionOf rs ≤ 404010000000000
 unfolding unionOf
 union-bound rs = squares-bound (negℤ extent) breadth (negℤ extent) breadth (covered rs)

@@ -8,7 +8,7 @@ use lib.IntN.{ℤ, pos, negℤ, _+ℤ_}
 use lib.Signed.{_≤ℤ_}
 use Rattle.lists.specs.Lists.{All, Pairwise, sum}
 use Rattle.geometry.specs.declared.Rect.{Rect}
-use Rattle.geometry.specs.Rectangles.{inExtent, areaOf}
+use Rattle.geometry.specs.Rectangles.{held, inExtent, areaOf}
 use Rattle.plan.specs.Plan.{layersOf}
 use Rattle.plan.specs.Frames.{Framed}
 use Rattle.join.specs.Join.{rects, commonOf, areaIn}
@@ -31,7 +31,9 @@ pub record UnionHolds : Type 0 where
   pub some : (x y : ℤ) (rs : List Rect) → (covered rs x y ≡ true) ↔ ((r : Rect) × List·Memᴰ r rs × Holds x y r)
   -- no square lies outside the range that is counted: any that is as wide or wider counts the same
   pub whole : (rs : List Rect) → All (λ r. inExtent r ≡ true) rs → (a : ℤ) (w : ℕ) (b : ℤ) (h : ℕ)
-      → a ≤ℤ negℤ (pos 1050000) → pos 1050000 ≤ℤ (a +ℤ pos w) → b ≤ℤ negℤ (pos 1050000) → pos 1050000 ≤ℤ (b +ℤ pos h) → squares (covered rs) a w b h ≡ unionOf rs
+      → a ≤ℤ negℤ (pos 10050000) → pos 10050000 ≤ℤ (a +ℤ pos w) → b ≤ℤ negℤ (pos 10050000) → pos 10050000 ≤ℤ (b +ℤ pos h) → squares (covered rs) a w b h ≡ unionOf rs
+  -- 02, Q-13: "Every plan of the old range gives the same .. printed totals": of rectangles from −1,050,000 to 1,050,000 it is the count over that range
+  pub old : (rs : List Rect) → All (λ r. held (pos 1050000) r ≡ true) rs → unionOf rs ≡ squares (covered rs) (negℤ (pos 1050000)) 2100000 (negℤ (pos 1050000)) 2100000
   -- the union is settled by the squares that are covered; so neither order nor repetition matters
   pub settled : (rs ss : List Rect) → ((x y : ℤ) → covered rs x y ≡ covered ss x y) → unionOf rs ≡ unionOf ss
   pub members : (rs ss : List Rect) → ((r : Rect) → List·Memᴰ r rs ↔ List·Memᴰ r ss) → unionOf rs ≡ unionOf ss
@@ -40,8 +42,8 @@ pub record UnionHolds : Type 0 where
   pub apart : (rs : List Rect) → All (λ r. inExtent r ≡ true) rs → Pairwise (λ r s. (x y : ℤ) → covers x y r ≡ true → covers x y s ≡ true → ⊥) rs → unionOf rs ≡ sum (map areaOf rs)
   -- at least each area
   pub least : (rs : List Rect) → All (λ r. inExtent r ≡ true) rs → (r : Rect) → List·Memᴰ r rs → areaOf r ≤ unionOf rs
-  -- 2,100,000 units each way
-  pub bound : (rs : List Rect) → unionOf rs ≤ 4410000000000
+  -- 20,100,000 units each way
+  pub bound : (rs : List Rect) → unionOf rs ≤ 404010000000000
   -- of 4 and 4 square millimetres, 1 of them common
   pub example : unionOf (corners (pos 0) (pos 0) (pos 2) (pos 2) ∷ corners (pos 1) (pos 1) (pos 3) (pos 3) ∷ []) ≡ 7
 

@@ -108,7 +108,7 @@ gap-most m n a r e f =
 
 -- it fits 64 bits, of a box in range and a rectangle in the extent
 pub gap-fits : (a r : Rect) (n : ℕ) → inRange a ≡ true → inExtent r ≡ true → n ≡ squaredGap a r → Fits w64 n
-gap-fits a r n h k e = record { fits = omega (arith, gap-most 1000000 1050000 a r h k) }
+gap-fits a r n h k e = record { fits = omega (arith, gap-most 10000000 10050000 a r h k) }
 
 -- as the code reads the sides
 pub read-gap : (a r : Rect) → Fitting a → Fitting r → (x y : ℕ)

@@ -51,8 +51,8 @@ pub record NearestHolds : Type 0 where
   pub gaps : (a r : Rect) → nonempty a ≡ true → nonempty r ≡ true → GapHolds a r
   -- box 0, 0, 1, 1 and rectangle 4, 5, 6, 7: 3 across and 4 upward
   pub example : squaredGap (record { left = pos 0; bottom = pos 0; right = pos 1; top = pos 1 }) (record { left = pos 4; bottom = pos 5; right = pos 6; top = pos 7 }) ≡ 25
-  -- of a box with coordinates from −m to m and a rectangle with coordinates from −n to n: 8.405 × 10^12 with 1,000,000 and
-  -- 1,050,000, as in every plan; 10,000,000 and 10,050,000 (8.04005 × 10^14) would fit 64 bits as well
+  -- of a box with coordinates from −m to m and a rectangle with coordinates from −n to n: 8.04005 × 10^14 with 10,000,000 and
+  -- 10,050,000, as in every plan, which fits 64 bits
   pub bound : (m n : ℕ) (a r : Rect) → held (pos m) a ≡ true → held (pos n) r ≡ true → squaredGap a r ≤ 2 * ((m + n) * (m + n))
   pub causes : (s : Shape) (cells : List ℤ) (a : Rect) → NearestCauses s cells a
   -- an accepted call answers for layers 1 to 6, in this order

@@ -6,8 +6,8 @@ use native.Mathlib.Omega.{arith}
 use lib.IntN.{ℤ}
 use lib.ListN.{take}
 use Rattle.totals.specs.declared.Total.{Total}
-use Rattle.totals.specs.Totals.{totalOf, valueOf}
-use Rattle.totals.proofs.Totals.{value-total}
+use Rattle.totals.specs.Totals.{totalOf, valueOf, Kept}
+use Rattle.totals.proofs.Totals.{value-total, kept-total}
 use Rattle.geometry.specs.declared.Rect.{Rect}
 use Rattle.plan.specs.Plan.{layersOf}
 use Rattle.ground.specs.Union.{unionOf, grounds}
@@ -24,8 +24,8 @@ module _ (t : Total) (u : ℕ) (rs : List Rect) (none : t ≡ totalOf 0) (is : u
   value-none : valueOf t ≡ 0
   value-none = ap valueOf none ∙ value-total 0
 
-  pub ground-fits : valueOf t + u < 18446744073709551616
-  ground-fits = omega (arith, value-none, is, union-holds .bound rs)
+  pub ground-fits : Kept t × (u < 9223372036854775808)
+  ground-fits = (kept-total t 0 none (omega arith), omega (arith, is, union-holds .bound rs))
 
   pub ground-total : (r : Total) → r ≡ totalOf (valueOf t + u) → r ≡ totalOf (unionOf rs)
   ground-total r e = let q : valueOf t + u ≡ unionOf rs = omega (arith, value-none, is) in e ∙ ap totalOf q

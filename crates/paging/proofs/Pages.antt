@@ -6,7 +6,7 @@ use Prim.Native.Nat.{ℕ, _+_}
 use lib.ListN.{length, length-map}
 use Rattle.lists.specs.Lists.{All}
 use Rattle.lists.proofs.Lists.{all-of-map}
-use Rattle.totals.proofs.Totals.{value-total}
+use Rattle.totals.specs.Totals.{totalOf}
 use Rattle.search.specs.Traversal.{Probe, Row, rowOf}
 use Rattle.search.specs.Paging.{Paged, page}
 use Rattle.search.proofs.Paging.{page-rows, page-room, page-ended, page-going, page-rest, page-stops, page-full, page-spent}
@@ -38,6 +38,7 @@ module _ {S : Type 0} (o : Overlay S) (l : Lawful o) (x : Served) (v : Serves o 
 
   -- what 01 says of the call
   pub page-holds : PageHolds o x w
+  unfolding totalOf
   page-holds = record {
     rows = rw (its-answer, its-table) (filled ∙ ap (placed o) (page-rows rowOf b m w));
     ended = rw its-answer (page-ended rowOf b m w);
@@ -45,7 +46,7 @@ module _ {S : Type 0} (o : Overlay S) (l : Lawful o) (x : Served) (v : Serves o 
     spent = rw its-answer (page-spent rowOf b m w);
     stops = rw its-answer (page-stops rowOf b m w);
     going = rw its-answer (page-going rowOf b m w);
-    area = rw (its-answer, its-table, filled) (value-total _);
+    area = rw (its-answer, its-table, filled);
     ticket = rw its-answer (ap (λ (v : List (Probe S)). record { cursor = dueCursor (o .sizes) v; count = x .ticket .count + its .done }) (page-rest rowOf b m w));
     counted = v .counted e ∙ rw (its-answer, r);
     long = rw its-table (fill-long (length (o .sizes)) (x .table) long (rw length-map (page-room rowOf b m w)));

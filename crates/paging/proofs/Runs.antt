@@ -21,6 +21,7 @@ use Rattle.plan.proofs.Theorems.{plans}
 use Rattle.sweep.specs.Sweep.{orderCause}
 use Rattle.join.specs.Join.{rects, commonOf, areaIn}
 use Rattle.join.specs.Table.{tableOf}
+use Rattle.totals.specs.Totals.{totalOf}
 use Rattle.totals.proofs.Totals.{value-total}
 use Rattle.ground.specs.Union.{unionOf, grounds}
 use Rattle.ground.proofs.Theorems.{union-holds, table-unions}
@@ -61,11 +62,13 @@ module _ (s : Shape) (cells : List ℤ) {S : Type 0} (o : Overlay S) (l : Lawful
 
   -- demand 3, of one run
   ran-holds : RunHolds s cells o table (its .cause) (runValues (its .answer)) (its .after)
+  unfolding totalOf
   ran-holds = record {
     succeeds = rw run-cause (λ e. leb-true n m (unless-zero (leb n m) 6 e), λ h. rw (le-leb n m h));
     rows = λ e. of-k (λ k. rowsIn k (runValues (its .answer) .rows) (its .after) ≡ o .table) (rw e (rows-filled (length (o .sizes)) table (l .long)));
-    counts = λ e. (rw e, rw e, rw e, rw e (value-total _));
-    ground = λ e. rw e (value-total _, rw (value-total, value-total) (between .0), λ row i. rw value-total (between .1 row i));
+    counts = λ e. (rw e, rw e, rw e);
+    area = λ e. rw e;
+    ground = λ e. rw e (refl, rw (value-total, value-total) (between .0), λ row i. rw value-total (between .1 row i));
     long = go (its .cause) refl;
     kept = λ e. of-k (λ k. drop (k * n) (its .after) ≡ drop (k * n) table) (rw e (fill-kept (length (o .sizes)) table (l .long)));
     fails = λ h. let e : its .cause ≡ 7 = rw (run-cause, lt-leb n m h) in (rw e, rw e);

@@ -5,7 +5,7 @@ use mathlib.Core.List.{List, [], _∷_, _++_, map, List·Memᴰ}
 use mathlib.Core.Bool.{Bool, true, false, _&&_}
 use mathlib.Core.Logic.{_↔_, _⊎_}
 use mathlib.Core.Option.{Option, none, some}
-use Prim.Native.Nat.{ℕ, zero, suc, _+_, _-_, _*_, _/_, _≤_, _<_, min}
+use Prim.Native.Nat.{ℕ, zero, suc, _+_, _-_, _*_, _/_, _%_, _≤_, _<_, min}
 use lib.IntN.{ℤ}
 use lib.Dec.{eqb, ltb}
 use lib.ListN.{length, getD, take, drop}
@@ -277,8 +277,8 @@ pub record PageHolds {S : Type 0} (o : Overlay S) (x : Served) (w : List (Probe 
   pub spent : (x .answer .stop ≡ Spent) ↔ ((x .answer .probes < length w) × (x .answer .rows < room o (x .table)) × (x .answer .probes ≡ x .budget))
   pub stops : (x .answer .stop ≡ Ended) ⊎ ((x .answer .stop ≡ Full) ⊎ (x .answer .stop ≡ Spent))
   pub going : (d : ℕ) → d < x .answer .probes → (length (rowsOf rowOf (take d w)) < room o (x .table)) × (d < x .budget)
-  -- the sum of its rows' areas in square millimetres
-  pub area : valueOf (x .answer .area) ≡ sum (map (o .area) (rowsIn (length (o .sizes)) (x .answer .rows) (x .after)))
+  -- the sum of its rows' areas. 02, Q-13: "kept as whole square metres and a rest below 1,000,000 square millimetres"
+  pub area : let n = sum (map (o .area) (rowsIn (length (o .sizes)) (x .answer .rows) (x .after))) in x .answer .area ≡ record { metres = n / 1000000; rest = n % 1000000 }
   -- the ticket for what is due next, with "the new count"; the counter holds it too
   pub ticket : x .answer .ticket ≡ record { cursor = dueCursor (o .sizes) (drop (x .answer .probes) w); count = x .ticket .count + x .answer .probes }
   pub counted : x .counted ≡ (x .ticket .count + x .answer .probes) ∷ []
@@ -320,9 +320,11 @@ pub record TicketsHold (r : Course) (xs : List Served) : Type 0 where
 pub record RunHolds (s : Shape) (cells : List ℤ) {S : Type 0} (o : Overlay S) (table : List ℕ) (cause : ℕ) (v : RunValues) (after : List ℕ) : Type 0 where
   pub succeeds : (cause ≡ 0) ↔ (length (o .table) ≤ room o table)
   pub rows : cause ≡ 0 → rowsIn (s .k) (v .rows) after ≡ o .table
-  pub counts : cause ≡ 0 → (v .number ≡ 0) × (v .rows ≡ length (o .table)) × (v .probes ≡ length (o .walk)) × (valueOf (v .area) ≡ sum (map (o .area) (o .table)))
+  pub counts : cause ≡ 0 → (v .number ≡ 0) × (v .rows ≡ length (o .table)) × (v .probes ≡ length (o .walk))
+  -- 02, Q-13: "every area sum and the union are kept as whole square metres and a rest"
+  pub area : let n = sum (map (o .area) (o .table)) in cause ≡ 0 → v .area ≡ record { metres = n / 1000000; rest = n % 1000000 }
   -- 02, Q-6: "the union of all rows' common ground" (ground, `UnionHolds`, `TableUnions`); at most the area sum, and at least each row's area
-  pub ground : cause ≡ 0 → (valueOf (v .ground) ≡ unionOf (grounds (layers s cells) (o .table))) × (valueOf (v .ground) ≤ valueOf (v .area))
+  pub ground : let n = unionOf (grounds (layers s cells) (o .table)) in cause ≡ 0 → (v .ground ≡ record { metres = n / 1000000; rest = n % 1000000 }) × (valueOf (v .ground) ≤ valueOf (v .area))
       × ((row : List ℕ) → List·Memᴰ row (o .table) → o .area row ≤ valueOf (v .ground))
   -- the rest of the table is kept; where the table does not fit, all of it
   pub long : length after ≡ length table

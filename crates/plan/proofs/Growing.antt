@@ -14,8 +14,8 @@ use Rattle.lists.specs.Stores.{Put}
 use Rattle.lists.proofs.Lists.{all-take, all-getD}
 use Rattle.lists.proofs.Stores.{Left, left-all, left-put, left-none, left-room, put-start, put-length}
 use Rattle.geometry.specs.declared.Rect.{Rect}
-use Rattle.geometry.specs.Rectangles.{inRange, inExtent, grownBy}
-use Rattle.geometry.proofs.Rectangles.{grown-extent, grown-none, range-extent}
+use Rattle.geometry.specs.Rectangles.{inRange, held, grownBy}
+use Rattle.geometry.proofs.Rectangles.{grown-held, grown-none, range-extent}
 use Rattle.plan.specs.declared.Shape.{Shape}
 use Rattle.plan.specs.Limits.{mostCells}
 use Rattle.plan.specs.Plan.{rectAt, rectCells, count, Layer, layersOf, sizesOf, grownFrom, grownLayers, grown, layers, allFit, Sound}
@@ -132,17 +132,17 @@ module _ (s : Shape) (cells : List ℤ) where
   }
 
   module _ (h : Sound s cells) where
-    -- the rectangle with a number
-    pub grown-ranged : (i : ℕ) → i < sum (sizesOf s) → inExtent (rectAt (grown s cells) i) ≡ true
-    grown-ranged i p =
+    -- the rectangle with a number, where each as it is drawn is from −b to b
+    pub grown-ranged : (b : ℕ) → ((i : ℕ) → i < count cells → held (pos b) (rectAt cells i) ≡ true) → (i : ℕ) → i < sum (sizesOf s) → held (pos (b + 50000)) (rectAt (grown s cells) i) ≡ true
+    grown-ranged b drawn i p =
         let c = checked s cells h in
         let t = spotOf (sizesOf s) i in
         let q = rect-number (sizesOf s) (grown s cells) i p in
         let m = getD (s .margins) (t .layer) 0 in
         let at : t .place < getD (sizesOf s) (t .layer) 0 = subst (λ (n : ℕ). t .place < n) (size-of (sizesOf s) (grown s cells) (t .layer)) (q .1) in
         let r = grown-at (t .layer) (t .place) at ∙ ap (grownBy m) (rect-number (sizesOf s) cells i p .0) in
-        let e = grown-extent m (rectAt cells i) (c .ranged i (omega (arith, count-is s cells c, front-sum s cells c))) (get-small (fit-small 50000 (s .k) 0 (s .margins) (c .margins)) (t .layer)) in
-        subst (λ (z : Rect). inExtent z ≡ true) (sym r ∙ q .0) e
+        let e = grown-held b m (rectAt cells i) (drawn i (omega (arith, count-is s cells c, front-sum s cells c))) (get-small (fit-small 50000 (s .k) 0 (s .margins) (c .margins)) (t .layer)) in
+        subst (λ (z : Rect). held (pos (b + 50000)) z ≡ true) (sym r ∙ q .0) e
 
     -- as the functions below the calls take it
     pub framed : (s .k ≤ length (s .sizes)) × Framed (sizesOf s) (grown s cells)
@@ -156,7 +156,7 @@ module _ (s : Shape) (cells : List ℤ) where
             few = omega arith;
             small = all-take (s .k) (fit-small 512 (s .k) 0 (s .sizes) (c .fit));
             whole = grown-length s cells;
-            ranged = grown-ranged;
+            ranged = grown-ranged 10000000 (c .ranged);
           },
         )
 

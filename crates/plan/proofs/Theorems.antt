@@ -1,5 +1,5 @@
 -- The promises on causes hold of every plan.
-use mathlib.Core.Path.{_≡_, refl, ap, _∙_}
+use mathlib.Core.Path.{_≡_, refl, sym, ap, _∙_}
 use mathlib.Core.List.{List, [], _∷_, _++_}
 use mathlib.Core.Bool.{Bool, true, false, _&&_, _||_}
 use mathlib.Core.Logic.{_↔_, _⊎_, inl, inr}
@@ -12,11 +12,12 @@ use lib.Seq.{length-take-le, getD-append-add, getD-take}
 use borrow.Author.Tests.{le-leb, leb-true, eq-eqb, eqb-true, le-ltb, lt-ltb}
 use Rattle.lists.specs.Lists.{Tells, sum}
 use Rattle.lists.proofs.Tests.{both, and-true, total, tells}
-use Rattle.geometry.proofs.Rectangles.{ranged, in-range}
+use Rattle.geometry.specs.Rectangles.{held, inRange}
+use Rattle.geometry.proofs.Rectangles.{ranged, in-range, old-range}
 use Rattle.plan.specs.declared.Shape.{Shape}
 use Rattle.plan.specs.Causes.{unless, _orElse_}
 use Rattle.plan.specs.Plan.{rectAt, count, fitsAt, allFit, allRanged, planCause}
-use Rattle.plan.specs.Theorems.{Layered, Sized, Margined, Filled, AllIn, CausesHold, Grows, Plans}
+use Rattle.plan.specs.Theorems.{Layered, Sized, Margined, Filled, AllIn, CausesHold, OldCells, OldIn, OldHolds, Grows, Plans}
 use Rattle.plan.proofs.Plan.{ranged-at, ranged-all, front-sum, checked, plan-known}
 use Rattle.plan.proofs.Growing.{framed, grows}
 
@@ -138,11 +139,29 @@ causes-hold s cells = record { none = f .none; one = f .one; two = f .two; seven
         (tells _ (eqb-true (length cells) (4 * sum (s .sizes))) (eq-eqb (length cells) (4 * sum (s .sizes))))
         (tells _ (λ e i h. ranged _ (ranged-at cells (count cells) i e h)) (λ h. ranged-all cells (count cells) (λ i k. in-range _ (h i k))))
 
+-- ---- the old range
+old-at : (cells : List ℤ) → OldCells cells → (i : ℕ) → inRange (rectAt cells i) ≡ held (pos 1000000) (rectAt cells i)
+unfolding rectAt
+old-at cells h i = old-range (rectAt cells i) (h (4 * i)) (h (4 * i + 1)) (h (4 * i + 2)) (h (4 * i + 3))
+
+old-in : (cells : List ℤ) → OldCells cells → AllIn cells ↔ OldIn cells
+old-in cells o = (λ h i k. sym (old-at cells o i) ∙ in-range _ (h i k), λ h i k. ranged _ (old-at cells o i ∙ h i k))
+
+old-holds : (s : Shape) (cells : List ℤ) → OldCells cells → OldHolds s cells
+old-holds s cells o =
+    let c = causes-hold s cells in
+    let b = old-in cells o in
+    record {
+      none = (λ e. let h = c .none .0 e in (h .0, h .1, h .2, h .3, b .0 (h .4)), λ h. c .none .1 (h .0, h .1, h .2, h .3, b .1 (h .4)));
+      four = (λ e. let h = c .four .0 e in (h .0, h .1, h .2, h .3, λ k. h .4 (b .1 k)), λ h. c .four .1 (h .0, h .1, h .2, h .3, λ k. h .4 (b .0 k)));
+    }
+
 pub plans : Plans
 plans = record {
   fields = fields;
   sizes = λ s j h. getD-take (s .k) (s .sizes) j 0 h;
   causes = causes-hold;
+  old = old-holds;
   grows = grows;
   frames = λ s cells h.
       let f = framed s cells h in

@@ -3,10 +3,11 @@ use mathlib.Core.Path.{_≡_}
 use mathlib.Core.List.{List, _∷_, _++_}
 use mathlib.Core.Logic.{_↔_, _⊎_}
 use Prim.Native.Nat.{ℕ, _*_, _≤_, _<_}
-use lib.IntN.{ℤ}
+use mathlib.Core.Bool.{true}
+use lib.IntN.{ℤ, pos}
 use lib.ListN.{length, getD}
 use Rattle.lists.specs.Lists.{sum}
-use Rattle.geometry.specs.Rectangles.{grownBy}
+use Rattle.geometry.specs.Rectangles.{between, held, grownBy}
 use Rattle.geometry.specs.Theorems.{Ranged}
 use Rattle.plan.specs.declared.Shape.{Shape}
 use Rattle.plan.specs.Plan.{rectAt, count, layersOf, sizesOf, grown, layers, planCause, Sound}
@@ -45,6 +46,18 @@ pub record CausesHold (s : Shape) (cells : List ℤ) : Type 0 where
   -- and there are no others
   pub known : (planCause s cells ≤ 4) ⊎ (planCause s cells ≡ 17)
 
+-- 02, Q-13: "Every plan of the old range gives the same rows, trials and printed totals." Table, walk, pages and sums have no range in their definitions, and
+-- where every cell is from −1,000,000 to 1,000,000, the checks let through what they let through with that range, and refuse the rest by 4 as they did
+abbrev pub OldCells : List ℤ → Type 0
+OldCells cells = (i : ℕ) → between (pos 1000000) (getD cells i (pos 0)) ≡ true
+
+abbrev pub OldIn : List ℤ → Type 0
+OldIn cells = (i : ℕ) → i < count cells → held (pos 1000000) (rectAt cells i) ≡ true
+
+pub record OldHolds (s : Shape) (cells : List ℤ) : Type 0 where
+  pub none : (planCause s cells ≡ 0) ↔ (Layered s × Sized s × Margined s × Filled s cells × OldIn cells)
+  pub four : (planCause s cells ≡ 4) ↔ (Layered s × Sized s × Margined s × Filled s cells × (OldIn cells → ⊥))
+
 -- 02, Q-4: the grown plan
 pub record Grows (s : Shape) (cells : List ℤ) : Type 0 where
   -- layer by layer and place by place, each rectangle is "the one grown by its margin on all four sides"; layers and places are counted from 0
@@ -59,6 +72,7 @@ pub record Plans : Type 0 where
   pub fields : (p : ℕ) (front : List ℤ) (left bottom right top : ℤ) (rest : List ℤ) → length front ≡ 4 * p
       → rectAt (front ++ left ∷ bottom ∷ right ∷ top ∷ rest) p ≡ record { left = left; bottom = bottom; right = right; top = top }
   pub causes : (s : Shape) (cells : List ℤ) → CausesHold s cells
+  pub old : (s : Shape) (cells : List ℤ) → OldCells cells → OldHolds s cells
   -- the sizes of the layers are the first k
   pub sizes : (s : Shape) (j : ℕ) → j < s .k → getD (sizesOf s) j 0 ≡ getD (s .sizes) j 0
   pub grows : (s : Shape) (cells : List ℤ) → Grows s cells

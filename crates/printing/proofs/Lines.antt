@@ -1,5 +1,5 @@
 -- Laws of the report's lines: their parts, and how long they may be.
-use mathlib.Core.Path.{_≡_, refl, sym, ap, _∙_}
+use mathlib.Core.Path.{_≡_, refl, sym, ap, ap₂, _∙_}
 use mathlib.Core.List.{List, [], _∷_, _++_, map, append-assoc}
 use Prim.Native.Nat.{ℕ, suc, _+_, _*_, _/_, _%_, _≤_}
 use native.Mathlib.Nat.{div-one}
@@ -35,15 +35,23 @@ letter-of kind byte e = rw e
 pub decimals-of : (h tenths last : ℕ) → tenths ≡ 48 + h / 10 % 10 → last ≡ 48 + h % 10 → 46 ∷ digits 2 h ≡ 46 ∷ tenths ∷ last ∷ []
 decimals-of h tenths last e f = rw (div-one h, e, f)
 
--- the square metres of an area, given its hundredths
-pub metres-of : (area h : ℕ) → h ≡ hundredths area → fieldsEnd (squareMetres (hundredths area) ∷ []) ≡ (9 ∷ squareMetres h) ++ fieldsEnd []
-metres-of area h e = rw e
+-- whole metres do not move the decimals
+decimals-same : (m h : ℕ) → digits 2 (m * 100 + h) ≡ digits 2 h
+decimals-same m h =
+    let e : (m * 100 + h) / 10 % 10 ≡ h / 10 % 10 = omega arith in
+    let f : (m * 100 + h) % 10 ≡ h % 10 = omega arith in
+    ap₂ (λ (x y : ℕ). (48 + x) ∷ (48 + y) ∷ []) e (ap (λ (n : ℕ). n % 10) (div-one (m * 100 + h)) ∙ (f ∙ sym (ap (λ (n : ℕ). n % 10) (div-one h))))
 
--- the total's line, given what the total says
-pub total-parts : (rows probes : ℕ) (total : Total) (area : ℕ) → area ≡ valueOf total
-    → totalLine rows probes total ≡ TOTAL ++ fieldsEnd (decimal rows ∷ decimal probes ∷ squareMetres (hundredths area) ∷ [])
-unfolding lineOf
-total-parts rows probes total area e = rw e
+-- the square metres of a total, given the hundredths of its rest: what they are above 99 carries into the whole metres
+pub metres-are : (t : Total) (h : ℕ) → h ≡ hundredths (t .rest) → squareMetres (hundredths (valueOf t)) ≡ decimal (t .metres + h / 100) ++ 46 ∷ digits 2 h
+unfolding squareMetres valueOf
+metres-are t h e =
+    let a : hundredths (t .metres * 1000000 + t .rest) ≡ t .metres * 100 + h = omega arith in
+    let b : (t .metres * 100 + h) / 100 ≡ t .metres + h / 100 = omega arith in
+    rw (a, b, decimals-same (t .metres) h) refl
+
+pub metres-of : (t : Total) (h : ℕ) → h ≡ hundredths (t .rest) → fieldsEnd (squareMetres (hundredths (valueOf t)) ∷ []) ≡ (9 ∷ decimal (t .metres + h / 100) ++ 46 ∷ digits 2 h) ++ fieldsEnd []
+metres-of t h e = ap (λ (l : List ℕ). 9 ∷ l ++ fieldsEnd []) (metres-are t h e)
 
 -- ---- lengths: no number has more than twenty digits
 few : (n : ℕ) → length (decimal n) ≤ 20

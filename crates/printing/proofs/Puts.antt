@@ -13,6 +13,9 @@ module _ (buf : List ℕ) (at : ℕ) (xs ys : List ℕ) where
   pub room-first : FitsAt buf at (xs ++ ys) → FitsAt buf at xs
   room-first h = record { fits = omega (arith, h .fits, length-append xs ys) }
 
+  pub room-front : (whole : List ℕ) → FitsAt buf at whole → whole ≡ xs ++ ys → FitsAt buf at xs
+  room-front whole h e = room-first (rw e at h)
+
   module _ (mid : List ℕ) (m : ℕ) (whole : List ℕ) where
     -- and, behind it, for the second
     pub room-second : FitsAt buf at whole → Put buf at xs mid m → whole ≡ xs ++ ys → FitsAt mid m ys

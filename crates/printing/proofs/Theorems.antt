@@ -1,16 +1,29 @@
--- The line of a row ends with its kind, and an area sum is rounded to the nearest hundredth.
+-- The line of a row ends with its kind, an area sum is rounded to the nearest hundredth, and plans of the old range have the total that they had.
+use mathlib.Core.Bool.{true}
 use mathlib.Core.Path.{_≡_, refl, sym, ap, _∙_}
 use mathlib.Core.List.{List, [], _∷_, _++_, append-assoc}
-use Prim.Native.Nat.{ℕ, suc, _/_}
+use Prim.Native.Nat.{ℕ, suc, _+_, _/_, _≤_, _<_}
 use native.Mathlib.Omega.{arith}
-use Rattle.geometry.specs.Rectangles.{letterOf}
-use Rattle.decimal.specs.Numerals.{decimal}
-use Rattle.plan.specs.Plan.{Layer}
+use lib.IntN.{ℤ, pos}
+use Rattle.lists.specs.Lists.{All}
+use Rattle.geometry.specs.Rectangles.{held, letterOf}
+use Rattle.totals.specs.declared.Total.{Total}
+use Rattle.totals.specs.Totals.{valueOf}
+use Rattle.totals.proofs.Totals.{value-total}
+use Rattle.decimal.specs.Numerals.{digits, decimal}
+use Rattle.plan.specs.declared.Shape.{Shape}
+use Rattle.plan.specs.Plan.{Layer, sizesOf, grown, Sound}
+use Rattle.plan.specs.Theorems.{OldCells}
+use Rattle.plan.proofs.Growing.{framed, grown-ranged}
+use Rattle.plan.proofs.Theorems.{plans}
 use Rattle.join.specs.Join.{rects, areaIn, kindIn, guardLayer}
-use Rattle.printing.specs.Lines.{ROW, lineOf, rowLine, squareMetres}
+use Rattle.ground.specs.Union.{unionOf}
+use Rattle.ground.proofs.Theorems.{union-holds}
+use Rattle.ground.proofs.Tables.{table-held}
+use Rattle.printing.specs.Lines.{ROW, TOTAL, lineOf, rowLine, hundredths, squareMetres}
 use Rattle.printing.specs.Parts.{tabbed}
-use Rattle.printing.specs.Theorems.{Ending, RowsEnd, Rounds}
-use Rattle.printing.proofs.Lines.{row-parts, decimals-of}
+use Rattle.printing.specs.Theorems.{Ending, RowsEnd, Rounds, rowGrounds, oldUnion, OldTotal, OldTotals}
+use Rattle.printing.proofs.Lines.{row-parts, decimals-of, metres-are}
 
 ends : (ls : List Layer) (row : List ℕ) → Ending (rowLine ls row) (9 ∷ letterOf (kindIn ls row) ∷ 10 ∷ [])
 unfolding lineOf
@@ -26,6 +39,31 @@ ends ls row =
 pub rows-end : RowsEnd
 rows-end = record { kind = ends; none = λ ls. refl; next = λ ls row rows. refl }
 
+carries : (t : Total) → 995000 ≤ t .rest → t .rest < 1000000 → squareMetres (hundredths (valueOf t)) ≡ decimal (t .metres + 1) ++ 46 ∷ 48 ∷ 48 ∷ []
+carries t h k = metres-are t 100 (omega arith)
+
+stays : (t : Total) → t .rest < 995000 → squareMetres (hundredths (valueOf t)) ≡ decimal (t .metres) ++ 46 ∷ digits 2 ((t .rest + 5000) / 10000)
+stays t h =
+    let e : t .metres + (t .rest + 5000) / 10000 / 100 ≡ t .metres = omega arith in
+    metres-are t ((t .rest + 5000) / 10000) refl ∙ ap (λ (n : ℕ). decimal n ++ 46 ∷ digits 2 ((t .rest + 5000) / 10000)) e
+
 pub rounds : Rounds
 unfolding squareMetres
-rounds = record { nearest = λ areaSum. (omega arith, omega arith); printed = λ h. ap (λ (l : List ℕ). decimal (h / 100) ++ l) (decimals-of h _ _ refl refl) }
+rounds = record { nearest = λ areaSum. (omega arith, omega arith); total = λ n. ap hundredths (value-total n); carries = carries; stays = stays; printed = λ h. ap (λ (l : List ℕ). decimal (h / 100) ++ l) (decimals-of h _ _ refl refl) }
+
+-- ---- plans of the old range
+old-total : (s : Shape) (cells : List ℤ) → Sound s cells → OldCells cells → OldTotal s cells
+old-total s cells h old = record {
+  ranged = ranged;
+  union = same;
+  printed = λ rows probes. ap (λ (n : ℕ). lineOf TOTAL (decimal rows ∷ decimal probes ∷ squareMetres (hundredths n) ∷ [])) (value-total (unionOf (rowGrounds s cells)) ∙ same);
+}
+  where
+    ranged : All (λ r. held (pos 1050000) r ≡ true) (rowGrounds s cells)
+    ranged = table-held (sizesOf s) (grown s cells) (framed s cells h .1) (pos 1050000) (grown-ranged s cells h 1000000 (plans .old s cells old .none .0 (h .passed) .4))
+
+    same : unionOf (rowGrounds s cells) ≡ oldUnion s cells
+    same = union-holds .old (rowGrounds s cells) ranged
+
+pub old-totals : OldTotals
+old-totals = record { totals = old-total }

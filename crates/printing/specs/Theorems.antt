@@ -1,12 +1,23 @@
--- Theorem: what the line of a row ends with, and what rounding an area sum means, for every row and every sum. Proved in proofs/Theorems.antt.
+-- Theorem: what the line of a row ends with, what rounding an area sum means, for every row and every sum, and the total of plans of the old range. Proved in
+-- proofs/Theorems.antt.
+use mathlib.Core.Bool.{true}
 use mathlib.Core.Path.{_≡_}
 use mathlib.Core.List.{List, [], _∷_, _++_}
 use Prim.Native.Nat.{ℕ, _+_, _*_, _/_, _%_, _≤_, _<_}
-use Rattle.geometry.specs.Rectangles.{letterOf}
-use Rattle.decimal.specs.Numerals.{decimal}
-use Rattle.plan.specs.Plan.{Layer}
+use lib.IntN.{ℤ, pos, negℤ}
+use Rattle.lists.specs.Lists.{All}
+use Rattle.geometry.specs.declared.Rect.{Rect}
+use Rattle.geometry.specs.Rectangles.{held, letterOf}
+use Rattle.totals.specs.declared.Total.{Total}
+use Rattle.totals.specs.Totals.{totalOf, valueOf}
+use Rattle.decimal.specs.Numerals.{digits, decimal}
+use Rattle.plan.specs.declared.Shape.{Shape}
+use Rattle.plan.specs.Plan.{Layer, sizesOf, grown, layers, Sound}
+use Rattle.plan.specs.Theorems.{OldCells}
 use Rattle.join.specs.Join.{kindIn}
-use Rattle.printing.specs.Lines.{rowLine, rowLines, hundredths, squareMetres}
+use Rattle.join.specs.Table.{tableOf}
+use Rattle.ground.specs.Union.{covered, squares, unionOf, grounds}
+use Rattle.printing.specs.Lines.{TOTAL, lineOf, rowLine, rowLines, hundredths, squareMetres, totalLine}
 
 -- a line's bytes up to its last field
 pub record Ending (line last : List ℕ) : Type 0 where
@@ -23,5 +34,31 @@ pub record RowsEnd : Type 0 where
 pub record Rounds : Type 0 where
   -- a hundredth of a square metre is 10,000 square millimetres: the nearest count of them, and of two equally near the higher
   pub nearest : (areaSum : ℕ) → (10000 * hundredths areaSum ≤ areaSum + 5000) × (areaSum < 10000 * hundredths areaSum + 5000)
+  -- of a sum kept as metres and a rest, what 01 says of the sum: "plus 5,000, divided by 10,000 and rounded down"
+  pub total : (n : ℕ) → hundredths (valueOf (totalOf n)) ≡ (n + 5000) / 10000
+  -- 02, Q-13: "Rounding up at half a hundredth carries into the whole metres": from 995,000 square millimetres on the rest is one metre more, and nothing
+  pub carries : (t : Total) → 995000 ≤ t .rest → t .rest < 1000000 → squareMetres (hundredths (valueOf t)) ≡ decimal (t .metres + 1) ++ 46 ∷ 48 ∷ 48 ∷ []
+  -- ... and below them only decimals
+  pub stays : (t : Total) → t .rest < 995000 → squareMetres (hundredths (valueOf t)) ≡ decimal (t .metres) ++ 46 ∷ digits 2 ((t .rest + 5000) / 10000)
   -- printed with a point and two digits, tenths and hundredths
   pub printed : (h : ℕ) → squareMetres h ≡ decimal (h / 100) ++ 46 ∷ (48 + h / 10 % 10) ∷ (48 + h % 10) ∷ []
+
+-- 02, Q-13: "Every plan of the old range gives the same rows, trials and printed totals." Its rows and its walk have no range in their definitions; its checks:
+-- plan, `Plans`: `old`
+module _ (s : Shape) (cells : List ℤ) where
+  -- the common ground of its rows
+  abbrev pub rowGrounds : List Rect
+  rowGrounds = grounds (layers s cells) (tableOf (sizesOf s) (grown s cells))
+
+  -- their union as it was counted, from −1,050,000 to 1,050,000 either way
+  abbrev pub oldUnion : ℕ
+  oldUnion = squares (covered rowGrounds) (negℤ (pos 1050000)) 2100000 (negℤ (pos 1050000)) 2100000
+
+  pub record OldTotal : Type 0 where
+    pub ranged : All (λ r. held (pos 1050000) r ≡ true) rowGrounds
+    pub union : unionOf rowGrounds ≡ oldUnion
+    -- 01: "plus 5,000, divided by 10,000 and rounded down, a count of hundredths"
+    pub printed : (rows probes : ℕ) → totalLine rows probes (totalOf (unionOf rowGrounds)) ≡ lineOf TOTAL (decimal rows ∷ decimal probes ∷ squareMetres ((oldUnion + 5000) / 10000) ∷ [])
+
+pub record OldTotals : Type 0 where
+  pub totals : (s : Shape) (cells : List ℤ) → Sound s cells → OldCells cells → OldTotal s cells

@@ -11,7 +11,7 @@ use totals::Total;
 ghost use mathlib.Core.Path.{_≡_};
 ghost use mathlib.Core.Bool.{true};
 ghost use mathlib.Core.List.{[], _∷_, _++_};
-ghost use Prim.Native.Nat.{_+_, _%_, _≤_};
+ghost use Prim.Native.Nat.{_+_, _%_, _≤_, _<_};
 ghost use lib.ListN.{length, take};
 ghost use Rattle.decimal.specs.Numerals.{digits, decimal};
 ghost use Rattle.geometry.specs.Rectangles.{letterOf};
@@ -21,6 +21,7 @@ ghost use Rattle.plan.specs.Frames.{Framed};
 ghost use Rattle.rows.specs.RowCall.{isRow};
 ghost use Rattle.paging.specs.Theorems.{rowsIn};
 ghost use Rattle.paging.specs.TableRows.{TableRows};
+ghost use Rattle.totals.specs.Totals.{metre, valueOf, Kept};
 ghost use Rattle.printing.specs.Lines.{fieldsEnd, ROW, lineOf, rowFields, rowLine, rowLines, hundredths, squareMetres, totalLine, refusedLine};
 ghost use Rattle.printing.specs.Parts.{tabbed, FitsAt};
 
@@ -159,11 +160,12 @@ fn put_rows(
     at
 }
 
-// The hundredths of a square metre of an area sum, rounded.
-fn hundredths_of(area: u64) -> u64
-    ensures { λ r. ⌜ r ≡ hundredths area ⌝ }
+// The hundredths of a square metre that a rest is rounded to. A hundred of them are one metre more.
+fn hundredths_of(rest: u64) -> u64
+    requires { ⌜ rest < metre ⌝ }
+    ensures { λ r. ⌜ (r ≡ hundredths rest) × (r ≤ 100) ⌝ }
 {
-    area / 10000 + (area % 10000 + 5000) / 10000
+    (rest + 5000) / 10000
 }
 
 // The last digit of a number, as a byte.
@@ -183,49 +185,50 @@ fn put_decimals(buf: &mut [u8], at: usize, h: u64) -> usize
     put_word(buf, at, &[b'.', tenths, last])
 }
 
-// A tab and hundredths with two decimals; the place behind them.
-fn put_metres(buf: &mut [u8], at: usize, h: u64) -> usize
-    requires { ⌜ FitsAt (now buf) at (9 ∷ squareMetres h) ⌝ }
-    ensures { λ r. ⌜ Put (now (buf .entry)) at (9 ∷ squareMetres h) (now (buf .exit)) r ⌝ }
+// A tab, whole metres and hundredths with two decimals; the place behind them.
+fn put_metres(buf: &mut [u8], at: usize, metres: u64, h: u64) -> usize
+    requires { ⌜ FitsAt (now buf) at (9 ∷ decimal metres ++ 46 ∷ digits 2 h) ⌝ }
+    ensures { λ r. ⌜ Put (now (buf .entry)) at (9 ∷ decimal metres ++ 46 ∷ digits 2 h) (now (buf .exit)) r ⌝ }
 {
-    let a = put_field(buf, at, h / 100);
+    let a = put_field(buf, at, metres);
     put_decimals(buf, a, h)
 }
 
-// A TOTAL line from its square metres on; the place behind it.
-fn put_area(buf: &mut [u8], at: usize, area: u64) -> usize
-    requires { ⌜ FitsAt (now buf) at (fieldsEnd (squareMetres (hundredths area) ∷ [])) ⌝ }
-    ensures { λ r. ⌜ Put (now (buf .entry)) at (fieldsEnd (squareMetres (hundredths area) ∷ [])) (now (buf .exit)) r ⌝ }
+// A TOTAL line from its square metres on; the place behind it. A rest that is rounded up to a hundred hundredths carries into the whole metres.
+fn put_area(buf: &mut [u8], at: usize, total: Total) -> usize
+    requires { ⌜ Kept total × FitsAt (now buf) at (fieldsEnd (squareMetres (hundredths (valueOf total)) ∷ [])) ⌝ }
+    ensures { λ r. ⌜ Put (now (buf .entry)) at (fieldsEnd (squareMetres (hundredths (valueOf total)) ∷ [])) (now (buf .exit)) r ⌝ }
 {
-    let a = put_metres(buf, at, hundredths_of(area));
+    let h = hundredths_of(total.rest);
+    let a = put_metres(buf, at, total.metres + h / 100, h);
     end_line(buf, a)
 }
 
 // A TOTAL line from its probes on; the place behind it.
-fn put_probes(buf: &mut [u8], at: usize, probes: u64, area: u64) -> usize
-    requires { ⌜ FitsAt (now buf) at (fieldsEnd (decimal probes ∷ squareMetres (hundredths area) ∷ [])) ⌝ }
-    ensures { λ r. ⌜ Put (now (buf .entry)) at (fieldsEnd (decimal probes ∷ squareMetres (hundredths area) ∷ [])) (now (buf .exit)) r ⌝ }
+fn put_probes(buf: &mut [u8], at: usize, probes: u64, total: Total) -> usize
+    requires { ⌜ Kept total × FitsAt (now buf) at (fieldsEnd (decimal probes ∷ squareMetres (hundredths (valueOf total)) ∷ [])) ⌝ }
+    ensures { λ r. ⌜ Put (now (buf .entry)) at (fieldsEnd (decimal probes ∷ squareMetres (hundredths (valueOf total)) ∷ [])) (now (buf .exit)) r ⌝ }
 {
     let a = put_field(buf, at, probes);
-    put_area(buf, a, area)
+    put_area(buf, a, total)
 }
 
 // A TOTAL line from its rows on; the place behind it.
-fn put_counts(buf: &mut [u8], at: usize, rows: u32, probes: u64, area: u64) -> usize
-    requires { ⌜ FitsAt (now buf) at (fieldsEnd (decimal rows ∷ decimal probes ∷ squareMetres (hundredths area) ∷ [])) ⌝ }
-    ensures { λ r. ⌜ Put (now (buf .entry)) at (fieldsEnd (decimal rows ∷ decimal probes ∷ squareMetres (hundredths area) ∷ [])) (now (buf .exit)) r ⌝ }
+fn put_counts(buf: &mut [u8], at: usize, rows: u32, probes: u64, total: Total) -> usize
+    requires { ⌜ Kept total × FitsAt (now buf) at (fieldsEnd (decimal rows ∷ decimal probes ∷ squareMetres (hundredths (valueOf total)) ∷ [])) ⌝ }
+    ensures { λ r. ⌜ Put (now (buf .entry)) at (fieldsEnd (decimal rows ∷ decimal probes ∷ squareMetres (hundredths (valueOf total)) ∷ [])) (now (buf .exit)) r ⌝ }
 {
     let a = put_field(buf, at, rows as u64);
-    put_probes(buf, a, probes, area)
+    put_probes(buf, a, probes, total)
 }
 
 // The TOTAL line; the place behind it.
 fn put_total(buf: &mut [u8], at: usize, rows: u32, probes: u64, total: Total) -> usize
-    requires { ⌜ FitsAt (now buf) at (totalLine rows probes total) ⌝ }
+    requires { ⌜ Kept total × FitsAt (now buf) at (totalLine rows probes total) ⌝ }
     ensures { λ r. ⌜ Put (now (buf .entry)) at (totalLine rows probes total) (now (buf .exit)) r ⌝ }
 {
     let a = put_word(buf, at, b"TOTAL");
-    put_counts(buf, a, rows, probes, totals::value(total))
+    put_counts(buf, a, rows, probes, total)
 }
 
 // The lines of the first n rows of a table, and the total, at the start of the buffer; the place behind them.
@@ -239,7 +242,7 @@ pub fn put_table(
     probes: u64,
     total: Total,
 ) -> usize
-    requires { ⌜ TableRows (now sizes) k (now cells) (now table) n ⌝ }
+    requires { ⌜ TableRows (now sizes) k (now cells) (now table) n × Kept total ⌝ }
     requires { ⌜ FitsAt (now buf) 0 (rowLines (layersOf (take k (now sizes)) (now cells)) (rowsIn k n (now table)) ++ totalLine n probes total) ⌝ }
     ensures { λ r. ⌜ Put (now (buf .entry)) 0 (rowLines (layersOf (take k (now (sizes .entry))) (now (cells .entry))) (rowsIn k n (now (table .entry))) ++ totalLine n probes total) (now (buf .exit)) r ⌝ }
 {

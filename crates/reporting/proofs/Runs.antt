@@ -8,11 +8,16 @@ use lib.IntN.{ℤ}
 use lib.ListN.{length}
 use Rattle.lists.proofs.Tests.{clash}
 use Rattle.totals.specs.declared.Total.{Total}
+use Rattle.totals.specs.Totals.{Kept}
+use Rattle.totals.proofs.Totals.{kept-total}
 use Rattle.plan.specs.declared.Shape.{Shape}
 use Rattle.plan.specs.Causes.{onCause}
 use Rattle.plan.specs.Plan.{sizesOf, layers, Sound, grown}
 use Rattle.sweep.specs.Sweep.{sweepOrder}
 use Rattle.join.specs.Table.{tableOf}
+use Rattle.ground.specs.Union.{grounds}
+use Rattle.ground.proofs.Theorems.{union-holds}
+use Rattle.paging.specs.Overlays.{overlay}
 use Rattle.paging.specs.declared.Run.{Run}
 use Rattle.paging.specs.declared.Run.the-variants.{Refused, Done}
 use Rattle.paging.specs.Calls.{runCause, runCall, runTable, runValues}
@@ -68,6 +73,7 @@ module _ (s : Shape) (cells : List ℤ) (run : Run) (table : List ℕ) (h : RanI
       is : planReport s cells ≡ rowLines (layers s cells) (tableOf (sizesOf s) (grown s cells)) ++ totalLine rows probes total
       read : rowsIn (s .k) rows table ≡ tableOf (sizesOf s) (grown s cells)
       short : length (rowLines (layers s cells) (tableOf (sizesOf s) (grown s cells)) ++ totalLine rows probes total) ≤ roomForAny
+      kept : Kept total
 
     told : Told
     unfolding runCall planReport
@@ -81,10 +87,14 @@ module _ (s : Shape) (cells : List ℤ) (run : Run) (table : List ℕ) (h : RanI
           is = rw (z, d .1, d .2, d .3);
           read = rw (h .filled, d .1) (rw (d .0) at (r .rows (d .0)));
           short = lines-fit s cells (h .sound) order lent refl (h .long) rows probes total (r .succeeds .0 (d .0));
+          kept = kept-total total _ (d .3) (omega (arith, union-holds .bound (grounds (layers s cells) (overlay s cells .table))));
         }
 
     pub printed : planReport s cells ≡ rowLines (layers s cells) (rowsIn (s .k) rows table) ++ totalLine rows probes total
     printed = rw (told .read) (told .is)
+
+    pub total-kept : Kept total
+    total-kept = told .kept
 
     -- what is asked for where the lines are put
     pub rows-run : TableRows (s .sizes) (s .k) (grown s cells) table rows

@@ -19,6 +19,7 @@ ghost use Rattle.plan.specs.Limits.{mostCells};
 ghost use Rattle.plan.specs.Plan.{count, grown, layers, Sound};
 ghost use Rattle.sweep.specs.Sweep.{sweepOrder};
 ghost use Rattle.lists.specs.Stores.{Put};
+ghost use Rattle.totals.specs.Totals.{Kept};
 ghost use Rattle.paging.specs.Theorems.{rowsIn};
 ghost use Rattle.paging.specs.TableRows.{TableRows};
 ghost use Rattle.printing.specs.Lines.{rowLines, totalLine};
@@ -147,7 +148,7 @@ fn put_grown(
     probes: u64,
     total: Total,
 ) -> usize
-    requires { ⌜ Sound shape (now cells) × TableRows (shape .sizes) (shape .k) (grown shape (now cells)) (now table) rows ⌝ }
+    requires { ⌜ Sound shape (now cells) × TableRows (shape .sizes) (shape .k) (grown shape (now cells)) (now table) rows × Kept total ⌝ }
     requires { ⌜ FitsAt (now out) 0 (rowLines (layers shape (now cells)) (rowsIn (shape .k) rows (now table)) ++ totalLine rows probes total) ⌝ }
     ensures { λ r. ⌜ Put (now (out .entry)) 0 (rowLines (layers shape (now (cells .entry))) (rowsIn (shape .k) rows (now (table .entry))) ++ totalLine rows probes total) (now (out .exit)) r ⌝ }
 {

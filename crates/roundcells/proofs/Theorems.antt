@@ -54,7 +54,7 @@ module _ (q : Request) (given : List ℕ) (typed : Typed (q .shape)) (long : len
   unfolding roundCells ticketsAfter
   round-in-cells = record {
     from = ticket-from;
-    page = λ t a b. part-of 4 (λ u. pageCells (pageIn (roundCall q .pages) u)) (λ u x y. refl) t a b;
+    page = λ t a b. part-of 5 (λ u. pageCells (pageIn (roundCall q .pages) u)) (λ u x y. refl) t a b;
     ticket = λ t a b e. ticket t a b e;
     past = λ t a b e. after-part e t (omega arith) b ∙ rw (lt-leb t (q .clients) a);
     refused = λ n e. rw e;

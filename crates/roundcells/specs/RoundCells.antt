@@ -1,4 +1,4 @@
--- A round's tickets and pages as cells: how the C interface lays them out. Those of client 1 come first; a ticket has twelve cells, a page four (crate cells).
+-- A round's tickets and pages as cells: how the C interface lays them out. Those of client 1 come first; a ticket has twelve cells, a page five (crate cells).
 use mathlib.Core.List.{List}
 use mathlib.Core.Bool.{cond}
 use Prim.Native.Nat.{ℕ, _-_, _*_}
@@ -24,7 +24,7 @@ ticketsIn cells = upto (λ t. ticketIn (twelveOf cells t)) 1 16
 abbrev pub pageIn : List Page → (t : ℕ) → Page
 pageIn pages t = getD pages (t - 1) (idlePage (record { cursor = endedCursor; count = 0 }))
 
--- the cells of the pages: why it stopped, rows, probes, area of each
+-- the cells of the pages: why it stopped, rows, probes, metres and rest of the area sum, of each
 unfoldable pub roundCells : List Page → List ℕ
 roundCells pages = each (λ t. pageCells (pageIn pages t)) 1 16
 

@@ -10,12 +10,12 @@ use Rattle.plan.specs.Plan.{Typed}
 use Rattle.cells.specs.Cells.{ticketIn, pageCells}
 use Rattle.roundcells.specs.RoundCells.{ticketsIn, roundCells, ticketsAfter}
 
--- of client t: twelve cells of the tickets, four of the answer
+-- of client t: twelve cells of the tickets, five of the answer
 pub record RoundInCells (q : Request) (given : List ℕ) : Type 0 where
   -- the ticket that a round takes from the cells
   pub from : (t : ℕ) → 1 ≤ t → t ≤ 16 → ticketAt q t ≡ ticketIn (take 12 (drop ((t - 1) * 12) given))
   -- "with each tablet's page answer": the cells of its page
-  pub page : (t : ℕ) → 1 ≤ t → t ≤ 16 → take 4 (drop ((t - 1) * 4) (roundCells (roundCall q .pages))) ≡ pageCells (pageOf q t)
+  pub page : (t : ℕ) → 1 ≤ t → t ≤ 16 → take 5 (drop ((t - 1) * 5) (roundCells (roundCall q .pages))) ≡ pageCells (pageOf q t)
   -- after an accepted round, the ticket that the next one takes from the cells is the one that its page call returned
   pub ticket : (t : ℕ) → 1 ≤ t → t ≤ q .clients → roundCause q ≡ 0
       → ticketIn (take 12 (drop ((t - 1) * 12) (ticketsAfter given (q .clients) (roundCause q) (roundCall q .pages)))) ≡ served (callOf q t) .answer .ticket

@@ -1,4 +1,4 @@
-// A round's tickets and pages as cells, for languages without structs: sixteen tickets of twelve cells, and sixteen pages of four. The layout is in
+// A round's tickets and pages as cells, for languages without structs: sixteen tickets of twelve cells, and sixteen pages of five. The layout is in
 // specs/RoundCells.antt; that of one ticket and of one page is crate `cells`'.
 use cells::page_cells;
 use cells::ticket_cells;
@@ -59,15 +59,15 @@ fn twelve_at(cells: &[u32], i: usize) -> [u32; 12]
 }
 
 // The cells of the pages.
-pub fn round_cells(pages: [Page; 16]) -> [u64; 64]
+pub fn round_cells(pages: [Page; 16]) -> [u64; 80]
     ensures { λ r. ⌜ r ≡ roundCells pages ⌝ }
 {
-    let mut cells = [0u64; 64];
+    let mut cells = [0u64; 80];
     let mut i: usize = 0;
     while i < 16 {
         let page = pages[i];
-        let four = page_cells(page);
-        put_page(&mut cells, i * 4, &four);
+        let five = page_cells(page);
+        put_page(&mut cells, i * 5, &five);
         i += 1;
     }
     cells

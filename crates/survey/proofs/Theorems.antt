@@ -14,7 +14,7 @@ use Rattle.floats.proofs.Values.{floor-is, ceil-is, floor-from, ceil-from, le-t
 use Rattle.survey.specs.declared.Corners.{Corners}
 use Rattle.survey.specs.Records.{cornersAt, coverOf, soundRecord, keptBy}
 use Rattle.survey.specs.CoverCall.{inputCause, coverCause, coverAfter}
-use Rattle.survey.specs.Theorems.{Contains, Million, IsCover, FiniteCorners, Surveys}
+use Rattle.survey.specs.Theorems.{Contains, TenMillion, IsCover, FiniteCorners, Surveys}
 use Rattle.survey.proofs.Keeping.{kept-at}
 use Rattle.survey.proofs.Causes.{cover-causes}
 use Rattle.survey.proofs.Layers.{accepted-is, plan-is, refused-is}
@@ -52,17 +52,17 @@ cover-order low high f g h =
     exact-back (floorOf low) (ceilOf high)
     (le-trans l low r (exact-finite (floorOf low)) f (exact-finite (ceilOf high)) (floor-is low f .below) (le-trans low high r f g (exact-finite (ceilOf high)) h (ceil-is high g .above)))
 
-million-is : (c : Corners) → FiniteCorners c → AtMost (c .left) (c .right) → AtMost (c .bottom) (c .top) → Ranged (coverOf c) ↔ Contains Million c
+reach-is : (c : Corners) → FiniteCorners c → AtMost (c .left) (c .right) → AtMost (c .bottom) (c .top) → Ranged (coverOf c) ↔ Contains TenMillion c
 unfolding coverOf
-million-is c f a u = (
+reach-is c f a u = (
   λ r. record {
-    left = floor-from (c .left) (Million .left) (f .left) (r .left .0);
-    bottom = floor-from (c .bottom) (Million .bottom) (f .bottom) (r .bottom .0);
-    right = ceil-from (c .right) (Million .right) (f .right) (r .right .1);
-    top = ceil-from (c .top) (Million .top) (f .top) (r .top .1);
+    left = floor-from (c .left) (TenMillion .left) (f .left) (r .left .0);
+    bottom = floor-from (c .bottom) (TenMillion .bottom) (f .bottom) (r .bottom .0);
+    right = ceil-from (c .right) (TenMillion .right) (f .right) (r .right .1);
+    top = ceil-from (c .top) (TenMillion .top) (f .top) (r .top .1);
   },
   λ h.
-      let i = cover-is c f .smallest Million h in
+      let i = cover-is c f .smallest TenMillion h in
       let l = i .left in
       let b = i .bottom in
       let r = i .right in
@@ -77,7 +77,7 @@ unfolding ofBits le floorOf ceilOf held between nonempty cornersAt coverOf sound
 surveys = record {
   cover = cover-is;
   only = λ c r f k. cover-only c f r k;
-  million = million-is;
+  reach = reach-is;
   kept = kept-at;
   causes = cover-causes;
   accepted = accepted-is;

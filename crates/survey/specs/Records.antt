@@ -26,7 +26,7 @@ records s = upto (cornersAt s) 0 (length s / 4)
 unfoldable pub coverOf : Corners → Rect
 coverOf c = record { left = floorOf (c .left); bottom = floorOf (c .bottom); right = ceilOf (c .right); top = ceilOf (c .top) }
 
--- 20 does not apply to the record: "any record's corner not finite, out of order, or covered beyond a million millimetres"
+-- 20 does not apply to the record: "any record's corner not finite, out of order, or covered beyond a million millimetres", since Q-13 beyond ten
 unfoldable pub soundRecord : Corners → Bool
 soundRecord c = ordered (c .left) (c .right) && ordered (c .bottom) (c .top) && inRange (coverOf c)
 

@@ -49,9 +49,9 @@ pub record FiniteCorners (c : Corners) : Type 0 where
   pub right : Finite (c .right)
   pub top : Finite (c .top)
 
--- "a million millimetres" either way of 0
-abbrev pub Million : Rect
-Million = record { left = negℤ (pos 1000000); bottom = negℤ (pos 1000000); right = pos 1000000; top = pos 1000000 }
+-- 02, Q-13: "Coordinates widen to 10,000,000 either way of 0, in 4, 10, 14 and 20 alike"
+abbrev pub TenMillion : Rect
+TenMillion = record { left = negℤ (pos 10000000); bottom = negℤ (pos 10000000); right = pos 10000000; top = pos 10000000 }
 
 -- ---- strips
 -- 02: "free, has a lower stop, an upper stop, or both", "its stops belonging to it": the value x lies in the strip
@@ -81,7 +81,7 @@ SoundStops (From a) = Finite a
 SoundStops (To b) = Finite b
 SoundStops (Between a b) = Finite a × Finite b × AtMost a b
 
--- 20: "any record's corner not finite, out of order, or covered beyond a million millimetres" (`Ranged` says the million)
+-- 20: "any record's corner not finite, out of order, or covered beyond a million millimetres", ten million since Q-13 (`Ranged`)
 pub record Surveyed (c : Corners) : Type 0 where
   pub is-finite : FiniteCorners c
   pub across : AtMost (c .left) (c .right)
@@ -146,8 +146,8 @@ pub record Surveys : Type 0 where
   -- the cover contains its record, no smaller one does, and no other rectangle is so
   pub cover : (c : Corners) → FiniteCorners c → IsCover c (coverOf c)
   pub only : (c : Corners) (r : Rect) → FiniteCorners c → IsCover c r → r ≡ coverOf c
-  -- the cover is in range exactly when the record is, as exact values; a corner at the million itself is
-  pub million : (c : Corners) → FiniteCorners c → AtMost (c .left) (c .right) → AtMost (c .bottom) (c .top) → Ranged (coverOf c) ↔ Contains Million c
+  -- the cover is in range exactly when the record is, as exact values; a corner at the ten million itself is
+  pub reach : (c : Corners) → FiniteCorners c → AtMost (c .left) (c .right) → AtMost (c .bottom) (c .top) → Ranged (coverOf c) ↔ Contains TenMillion c
   -- the records that are kept
   pub kept : (across upward : Strip) (corners : List Float) → SoundStops across → SoundStops upward → Recorded corners → (places : List ℕ) × KeptAt across upward corners places
   pub causes : (across upward : Strip) (corners : List Float) (room : ℕ) → CoverCauses across upward corners room

@@ -8,6 +8,8 @@ use lib.ListN.{length, length-append, length-map}
 use Rattle.plan.proofs.Theorems.{plans}
 use Rattle.sweep.specs.Sweep.{orderCause}
 use Rattle.sweep.proofs.Theorems.{sweep-holding}
+use Rattle.totals.specs.Totals.{totalOf, valueOf}
+use Rattle.totals.proofs.Totals.{value-total}
 use Rattle.ground.specs.Union.{unionOf, grounds}
 use Rattle.ground.proofs.Theorems.{union-holds}
 use Rattle.paging.specs.Overlays.{overlay}
@@ -17,7 +19,7 @@ use Rattle.paging.specs.Calls.{runCause, runCall, runTable, runValues}
 use Rattle.paging.specs.Theorems.{Call, RunHolds}
 use Rattle.paging.proofs.Theorems.{demand3}
 use Rattle.symmetry.specs.Plans.{Plan, firstPart, secondPart, countedOn}
-use Rattle.symmetry.specs.Theorems.{Accepted, layersIn, tableIn, areasIn, Rearranged, Cut, Lent, Ran, answer, handedOut, areaSum, groundSum, lentTo, RunsRearranged, RunsCut}
+use Rattle.symmetry.specs.Theorems.{Accepted, layersIn, tableIn, areasIn, Rearranged, Cut, Lent, Ran, answer, handedOut, areaSum, lentTo, RunsRearranged, RunsCut}
 use Rattle.symmetry.proofs.Rows.{set-count}
 use Rattle.symmetry.proofs.Rearranging.{same-grounds}
 
@@ -40,10 +42,15 @@ module _ (p : Plan) (l : Lent) (r : Ran p l) where
   run-count : answer p l .rows ≡ length (tableIn p)
   run-count = holds .counts (r .1) .1
 
-  run-areas : areaSum p l ≡ areasIn p
-  run-areas = holds .counts (r .1) .3
+  run-area : answer p l .area ≡ totalOf (areasIn p)
+  unfolding totalOf
+  run-area = holds .area (r .1)
 
-  run-ground : groundSum p l ≡ unionOf (grounds (layersIn p) (tableIn p))
+  run-areas : areaSum p l ≡ areasIn p
+  run-areas = ap valueOf run-area ∙ value-total (areasIn p)
+
+  run-ground : answer p l .ground ≡ totalOf (unionOf (grounds (layersIn p) (tableIn p)))
+  unfolding totalOf
   run-ground = holds .ground (r .1) .0
 
   run-accepted : Accepted p
@@ -73,8 +80,8 @@ pub runs-rearranged : (p q : Plan) (change : List ℕ → List ℕ) → Rearrang
 runs-rearranged p q change h = record {
   rows = λ l m r s. rw (run-rows p l r, run-rows q m s) (h .rows);
   counts = λ l m r s. run-count q m s ∙ (count ∙ sym (run-count p l r));
-  areas = λ l m r s. run-areas q m s ∙ (h .areas ∙ sym (run-areas p l r));
-  grounds = λ l m r s. run-ground q m s ∙ (same-union p q change h ∙ sym (run-ground p l r));
+  areas = λ l m r s. run-area q m s ∙ (ap totalOf (h .areas) ∙ sym (run-area p l r));
+  grounds = λ l m r s. run-ground q m s ∙ (ap totalOf (same-union p q change h) ∙ sym (run-ground p l r));
   fits = λ l r. runs-too p q l r (h .accepted) (h .count) (omega (arith, count));
 }
   where

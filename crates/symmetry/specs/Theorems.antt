@@ -132,12 +132,9 @@ module _ (p : Plan) (l : Lent) where
   abbrev pub handedOut : List (List ℕ)
   handedOut = rowsIn (p .shape .k) (answer .rows) (runTable (p .shape) (p .cells) (l .order) (l .table) (l .work))
 
-  -- the area sum that it returns, and the ground counted once
+  -- the area sum that it returns, in square millimetres
   abbrev pub areaSum : ℕ
   areaSum = valueOf (answer .area)
-
-  abbrev pub groundSum : ℕ
-  groundSum = valueOf (answer .ground)
 
 -- the same table and work buffer, and the sweep order of a plan
 abbrev pub lentTo : Plan → Lent → Lent
@@ -147,8 +144,8 @@ lentTo p l = record { order = sweepOrder (grown (p .shape) (p .cells)); table = 
 pub record RunsRearranged (p q : Plan) (change : List ℕ → List ℕ) : Type 0 where
   pub rows : (l m : Lent) → Ran p l → Ran q m → SameSet (handedOut q m) (map change (handedOut p l))
   pub counts : (l m : Lent) → Ran p l → Ran q m → answer q m .rows ≡ answer p l .rows
-  pub areas : (l m : Lent) → Ran p l → Ran q m → areaSum q m ≡ areaSum p l
-  pub grounds : (l m : Lent) → Ran p l → Ran q m → groundSum q m ≡ groundSum p l
+  pub areas : (l m : Lent) → Ran p l → Ran q m → answer q m .area ≡ answer p l .area
+  pub grounds : (l m : Lent) → Ran p l → Ran q m → answer q m .ground ≡ answer p l .ground
   pub fits : (l : Lent) → Ran p l → Ran q (lentTo q l)
 
 -- accepted whole runs of a plan and of its two parts

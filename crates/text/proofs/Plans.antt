@@ -124,8 +124,8 @@ module _ (s : Shape) (plan : List ℤ) (sound : Sound s plan) where
   unfolding planLines
   plan-short = rw (lt-ltb (s .k) (10 ^ mostDigits) (omega (arith, fit .high))) (lines-short 0 behind (gives .count) inside)
 
-  -- 7 bytes, six times 16, and 3,072 times 41
-  pub plan-long : length (spell (planLines s plan)) ≤ 126055
+  -- 7 bytes, six times 16, and 3,072 times 45
+  pub plan-long : length (spell (planLines s plan)) ≤ 138343
   unfolding planLines
   plan-long =
       let n : sum (layerSizes behind) ≤ 3072 = omega (arith, ap sum (gives .sizes), front-sum s plan fit, count-is s plan fit, few s plan sound) in

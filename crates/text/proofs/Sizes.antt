@@ -50,16 +50,16 @@ lines-short due (Layer (pos n) (pos m) ∷ ls) e i =
 lines-short zero (Rectangle q ∷ ls) e i = clash e refl
 lines-short (suc due) (Rectangle q ∷ ls) e i = let b = inside-rect i in rw (rect-short q (b .0)) (lines-short due ls e (b .1))
 
--- ---- bytes: a LAYER line has at most 16, a RECT line at most 41
-coordinate-long : (z : ℤ) → Coordinate z → length (numeral z) ≤ 8
-coordinate-long z c = numeral-below 6 z (lit≤ tt) (omega (zarith, c .0, c .1, size-law z, one-side z))
+-- ---- bytes: a LAYER line has at most 16, a RECT line at most 45
+coordinate-long : (z : ℤ) → Coordinate z → length (numeral z) ≤ 9
+coordinate-long z c = numeral-below 7 z (lit≤ tt) (omega (zarith, c .0, c .1, size-law z, one-side z))
 
-rect-long : (r : Rect) → inRange r ≡ true → length (spellTo (Rectangle r) []) ≤ 41
+rect-long : (r : Rect) → inRange r ≡ true → length (spellTo (Rectangle r) []) ≤ 45
 rect-long r h =
     let g = geometry.ranged r h in
     omega (arith, rect-length r, coordinate-long (r .left) (g .left), coordinate-long (r .bottom) (g .bottom), coordinate-long (r .right) (g .right), coordinate-long (r .top) (g .top))
 
-pub lines-long : (due : ℕ) (ls : List Line) → counted due ls ≡ true → Inside ls → length (spell ls) ≤ 16 * length (layerSizes ls) + 41 * (due + sum (layerSizes ls))
+pub lines-long : (due : ℕ) (ls : List Line) → counted due ls ≡ true → Inside ls → length (spell ls) ≤ 16 * length (layerSizes ls) + 45 * (due + sum (layerSizes ls))
 lines-long due [] e i = omega arith
 lines-long due (Plan k ∷ ls) e i = clash e refl
 lines-long due (Layer (negsuc n) m ∷ ls) e i = clash e refl

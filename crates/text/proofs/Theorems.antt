@@ -15,6 +15,7 @@ use borrow.Author.Tests.{eqb-true, le-leb, lt-leb, leb-true, leb-false}
 use Rattle.lists.proofs.Tests.{clash, both, le-tells}
 use Rattle.lists.specs.Lists.{padded, isSome}
 use Rattle.geometry.proofs.Integers.{zarith}
+use Rattle.geometry.proofs.Rectangles.{ranged}
 use Rattle.plan.specs.declared.Shape.{Shape}
 use Rattle.plan.specs.Causes.{unless, _orElse_}
 use Rattle.plan.specs.Plan.{planCause, Sound}
@@ -24,7 +25,7 @@ use Rattle.line.specs.declared.Line.{Line}
 use Rattle.line.specs.declared.Line.the-variants.{Plan, Layer, Rectangle}
 use Rattle.line.specs.Lines.{LAYER, putField}
 use Rattle.line.proofs.Lines.{old-layer}
-use Rattle.text.specs.Spelling.{spell, headed, allShort, Formed}
+use Rattle.text.specs.Spelling.{spell, inner, headed, allShort, Formed}
 use Rattle.text.specs.Parsing.{only, linesOf, wellFormed}
 use Rattle.text.specs.Plans.{layerLines, planLines, textOf, layerSizes, layerMargins, cellsIn, shapeIn, counted, wellCounted, agrees}
 use Rattle.text.specs.Reader.{linesCause, readCause, textShape, textCells}
@@ -212,33 +213,39 @@ old room front n rest h k =
     ap (λ (o : Option (List Line)). linesCause room (only headed o))
     (none-behind front (LAYER ++ putField n 10 rest) h (first-none (LAYER ++ putField n 10 rest) (omega arith) (old-layer n rest k)))
 
--- a margin among counted lines that are in range is from 0 to 50,000
-margin-inside : (due : ℕ) (front : List Line) (n m : ℤ) (back : List Line) → counted due (front ++ Layer n m ∷ back) ≡ true → Inside (front ++ Layer n m ∷ back) → (pos 0 ≤ℤ m) × (m ≤ℤ pos 50000)
-margin-inside due [] (negsuc n) m back c i = clash c refl
-margin-inside due [] (pos n) (negsuc m) back c i = clash c refl
-margin-inside due [] (pos n) (pos m) back c i = let b = inside-layer i in (omega zarith, omega (zarith, b .1))
-margin-inside due (Plan k ∷ front) n m back c i = clash c refl
-margin-inside due (Layer (negsuc a) b ∷ front) n m back c i = clash c refl
-margin-inside due (Layer (pos a) (negsuc b) ∷ front) n m back c i = clash c refl
-margin-inside due (Layer (pos a) (pos b) ∷ front) n m back c i =
-    margin-inside a front n m back (both (eqb due 0) (counted a (front ++ Layer n m ∷ back)) c .1) (inside-layer i .2)
-margin-inside zero (Rectangle r ∷ front) n m back c i = clash c refl
-margin-inside (suc due) (Rectangle r ∷ front) n m back c i = margin-inside due front n m back c (inside-rect i .1)
+-- ---- numbers out of range
+-- lines behind others are counted and in range where all are
+part-inside : (due : ℕ) (front rest : List Line) → counted due (front ++ rest) ≡ true → Inside (front ++ rest) → (d : ℕ) × (counted d rest ≡ true) × Inside rest
+part-inside due [] rest c i = (due, c, i)
+part-inside due (Plan k ∷ front) rest c i = clash c refl
+part-inside due (Layer (negsuc a) b ∷ front) rest c i = clash c refl
+part-inside due (Layer (pos a) (negsuc b) ∷ front) rest c i = clash c refl
+part-inside due (Layer (pos a) (pos b) ∷ front) rest c i = part-inside a front rest (both (eqb due 0) (counted a (front ++ rest)) c .1) (inside-layer i .2)
+part-inside zero (Rectangle r ∷ front) rest c i = clash c refl
+part-inside (suc due) (Rectangle r ∷ front) rest c i = part-inside due front rest c (inside-rect i .1)
 
-margin-agrees : (front : List Line) (n m : ℤ) (back : List Line) → agrees (front ++ Layer n m ∷ back) ≡ true → (pos 0 ≤ℤ m) × (m ≤ℤ pos 50000)
-margin-agrees [] n m back e = clash e (unfold agrees in refl)
-margin-agrees (Layer a b ∷ front) n m back e = clash e (unfold agrees in refl)
-margin-agrees (Rectangle r ∷ front) n m back e = clash e (unfold agrees in refl)
-margin-agrees (Plan (negsuc k) ∷ front) n m back e = clash e (unfold agrees in refl)
-margin-agrees (Plan (pos k) ∷ front) n m back e = let a = agreed k (front ++ Layer n m ∷ back) e in margin-inside 0 front n m back (a .count) (a .inside)
+part-agrees : (front : List Line) (l : Line) (back : List Line) → inner l ≡ true → agrees (front ++ l ∷ back) ≡ true → (d : ℕ) × (counted d (l ∷ back) ≡ true) × Inside (l ∷ back)
+part-agrees [] (Plan k) back i e = clash i refl
+part-agrees [] (Layer n m) back i e = clash e (unfold agrees in refl)
+part-agrees [] (Rectangle r) back i e = clash e (unfold agrees in refl)
+part-agrees (Layer a b ∷ front) l back i e = clash e (unfold agrees in refl)
+part-agrees (Rectangle r ∷ front) l back i e = clash e (unfold agrees in refl)
+part-agrees (Plan (negsuc k) ∷ front) l back i e = clash e (unfold agrees in refl)
+part-agrees (Plan (pos k) ∷ front) l back i e = let a = agreed k (front ++ l ∷ back) e in part-inside 0 front (l ∷ back) (a .count) (a .inside)
 
-margin : (room : ℕ) (front : List Line) (n m : ℤ) (back : List Line) → headed (front ++ Layer n m ∷ back) ≡ true → allShort (front ++ Layer n m ∷ back) ≡ true
-    → ((pos 0 ≤ℤ m) × (m ≤ℤ pos 50000) → ⊥) → readCause room (spell (front ++ Layer n m ∷ back)) ≡ 10
+-- a margin is from 0 to 50,000
+margin-inside : (due : ℕ) (n m : ℤ) (back : List Line) → counted due (Layer n m ∷ back) ≡ true → Inside (Layer n m ∷ back) → (pos 0 ≤ℤ m) × (m ≤ℤ pos 50000)
+margin-inside due (negsuc n) m back c i = clash c refl
+margin-inside due (pos n) (negsuc m) back c i = clash c refl
+margin-inside due (pos n) (pos m) back c i = let b = inside-layer i in (omega zarith, omega (zarith, b .1))
+
+-- well formed lines that do not agree are 10
+disagree : (room : ℕ) (ls : List Line) → headed ls ≡ true → allShort ls ≡ true → (agrees ls ≡ true → ⊥) → readCause room (spell ls) ≡ 10
 unfolding readCause
-margin room front n m back h s x = rw (lines-of-spelling (front ++ Layer n m ∷ back) h s) (go (agrees (front ++ Layer n m ∷ back)) (margin-agrees front n m back))
+disagree room ls h s x = rw (lines-of-spelling ls h s) (go (agrees ls) x)
   where
-    go : (b : Bool) → (b ≡ true → (pos 0 ≤ℤ m) × (m ≤ℤ pos 50000)) → (unless b 10 orElse unless (leb (length (cellsIn (front ++ Layer n m ∷ back))) room) 11) ≡ 10
-    go true f = absurd (x (f refl))
+    go : (b : Bool) → (b ≡ true → ⊥) → (unless b 10 orElse unless (leb (length (cellsIn ls)) room) 11) ≡ 10
+    go true f = absurd (f refl)
     go false f = refl
 
 -- ---- the writer
@@ -269,7 +276,7 @@ writer-refuses s plan buf zero h e = absurd (omega arith)
 writer-refuses s plan buf (suc n) h e = record { answer = rw e; number = rw e; size = rw e; told = rw e; kept = rw e }
 
 -- ---- the longest text
-longest : (s : Shape) (plan : List ℤ) → Sound s plan → length (textOf s plan) ≤ 126055
+longest : (s : Shape) (plan : List ℤ) → Sound s plan → length (textOf s plan) ≤ 138343
 unfolding textOf
 longest s plan sound = plan-long s plan sound
 
@@ -286,7 +293,8 @@ round-trip = record {
   twelve = twelve;
   earlier = earlier;
   old = old;
-  margin = margin;
+  margin = λ room front n m back h s x. disagree room _ h s (λ e. let k = part-agrees front (Layer n m) back refl e in x (margin-inside (k .0) n m back (k .1) (k .2)));
+  coordinate = λ room front r back h s x. disagree room _ h s (λ e. x (ranged r (inside-rect (part-agrees front (Rectangle r) back refl e .2) .0)));
   reader-refuses = reader-refuses;
   writer-refuses = writer-refuses;
   longest = longest;

@@ -35,7 +35,7 @@ abbrev pub allShort : List Line → Bool
 allShort [] = true
 allShort (l ∷ ls) = shortLine l && allShort ls
 
--- a text is the bytes of a PLAN line followed by LAYER and RECT lines, with numbers of at most seven digits
+-- a text is the bytes of a PLAN line followed by LAYER and RECT lines, with numbers of at most eight digits
 pub record Formed (t : List ℕ) : Type 0 where
   pub lines : List Line
   pub first : headed lines ≡ true

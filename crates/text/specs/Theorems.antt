@@ -8,11 +8,13 @@ use lib.IntN.{ℤ, pos}
 use lib.Signed.{_≤ℤ_}
 use lib.ListN.{length, take, drop}
 use Rattle.lists.specs.Lists.{sum}
+use Rattle.geometry.specs.declared.Rect.{Rect}
+use Rattle.geometry.specs.Theorems.{Ranged}
 use Rattle.plan.specs.declared.Shape.{Shape}
 use Rattle.plan.specs.Plan.{planCause, Sound}
 use Rattle.decimal.specs.Numerals.{numeral, short}
 use Rattle.line.specs.declared.Line.{Line}
-use Rattle.line.specs.declared.Line.the-variants.{Layer}
+use Rattle.line.specs.declared.Line.the-variants.{Layer, Rectangle}
 use Rattle.text.specs.Spelling.{spell, headed, allShort, Formed}
 use Rattle.text.specs.Parsing.{wellFormed}
 use Rattle.text.specs.declared.Writing.the-variants.{Written, Refused}
@@ -84,8 +86,11 @@ pub record RoundTrip : Type 0 where
   -- "a margin out of range, .. 17, .. in a text 10": a LAYER line with a margin that is not from 0 to 50,000, in a well formed text
   pub margin : (room : ℕ) (front : List Line) (n m : ℤ) (back : List Line) → headed (front ++ Layer n m ∷ back) ≡ true → allShort (front ++ Layer n m ∷ back) ≡ true
       → ((pos 0 ≤ℤ m) × (m ≤ℤ pos 50000) → ⊥) → readCause room (spell (front ++ Layer n m ∷ back)) ≡ 10
+  -- 02, Q-13: "10000001 gives 10": a RECT line with a coordinate that is not from −10,000,000 to 10,000,000, left > right or bottom > top, in a well formed text
+  pub coordinate : (room : ℕ) (front : List Line) (r : Rect) (back : List Line) → headed (front ++ Rectangle r ∷ back) ≡ true → allShort (front ++ Rectangle r ∷ back) ≡ true
+      → (Ranged r → ⊥) → readCause room (spell (front ++ Rectangle r ∷ back)) ≡ 10
   -- "A refusal returns its number and 0 for all else", and leaves what it was lent as it was
   pub reader-refuses : (t : List ℕ) (cells : List ℤ) (n : ℕ) → 0 < n → readCause (length cells) t ≡ n → ReaderRefuses t cells n
   pub writer-refuses : (s : Shape) (plan : List ℤ) (buf : List ℕ) (n : ℕ) → 0 < n → writeCause s plan (length buf) ≡ n → WriterRefuses s plan buf n
   -- no text of a plan is longer
-  pub longest : (s : Shape) (plan : List ℤ) → Sound s plan → length (textOf s plan) ≤ 126055
+  pub longest : (s : Shape) (plan : List ℤ) → Sound s plan → length (textOf s plan) ≤ 138343

@@ -1,13 +1,16 @@
--- A total says what it was made of, and this is its field.
-use mathlib.Core.Path.{_≡_, refl}
-use Rattle.totals.specs.declared.Total.{Total}
-use Rattle.totals.specs.Totals.{valueOf}
+-- A total says what it was made of, in one way.
+use mathlib.Core.Path.{refl}
+use native.Mathlib.Omega.{arith}
+use Rattle.totals.specs.Totals.{totalOf, valueOf}
 use Rattle.totals.specs.Theorems.{Totals}
-use Rattle.totals.proofs.Totals.{value-total}
-
-value-field : (t : Total) → valueOf t ≡ t .area
-unfolding valueOf
-value-field t = refl
+use Rattle.totals.proofs.Totals.{value-total, made-total}
 
 pub totals : Totals
-totals = record { says = value-total; field = value-field }
+unfolding valueOf totalOf
+totals = record {
+  says = value-total;
+  value = λ t. refl;
+  metres = λ n. refl;
+  rest = λ n. (refl, omega arith);
+  only = λ t n h e. made-total (t .metres) (t .rest) n h e;
+}

@@ -14,22 +14,11 @@ enum-known-run c = search needs
 cast-t7 : tie.Need-cast-t7
 cast-t7 c = search needs
 
-value-requires : tie.Need-value-requires
-value-requires c κs = search needs
-
-value-requires-2 : tie.Need-value-requires-2
-value-requires-2 c κs = search needs
-
 returns : tie.Need-returns
 returns c = run-none (sym (c .enum-told .given .1))
 
 returns-2 : tie.Need-returns-2
-returns-2 c =
-    let r : tie.After-run = search needs in
-    let v : tie.After-value = search needs in
-    run-some (v .value .result) (c .value2 .result) (v .value .ensures) (c .value2 .ensures) (sym (r .run .given .1))
+returns-2 c = let r : tie.After-run = search needs in run-some (sym (r .run .given .1))
 
 pub run-cells-spec : {M : Type 1} → statement M
-run-cells-spec =
-    tie.close
-    (tie.spec enum-told enum-known-run cast-t7 value-requires value-requires-2 returns returns-2)
+run-cells-spec = tie.close (tie.spec enum-told enum-known-run cast-t7 returns returns-2)

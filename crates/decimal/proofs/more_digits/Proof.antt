@@ -1,4 +1,4 @@
--- `more_digits` reads up to six digits more. The loop's invariant: what may still be read gives what all gives from the start.
+-- `more_digits` reads up to seven digits more. The loop's invariant: what may still be read gives what all gives from the start.
 use mathlib.Core.Path.{_≡_, refl, sym, ap, _∙_}
 use native.Mathlib.Omega.{arith}
 use lib.ListN.{getD}

@@ -1,15 +1,18 @@
 -- `put_area` puts the square metres and ends the line.
 use borrow.Author.Needs.{needs}
 use Rattle.printing.proofs.Lines.{metres-of}
-use Rattle.printing.proofs.Puts.{room-first, room-second, put-both}
+use Rattle.printing.proofs.Puts.{room-front, room-second, put-both}
 use Rattle.printing.proofs.put_area.Statement.{statement}
 use Rattle.printing.proofs.put_area.Tie as tie
 
 hundredths-of-requires : tie.Need-hundredths-of-requires
 hundredths-of-requires c κs = search needs
 
+add-put-metres : tie.Need-add-put-metres
+add-put-metres c = search needs
+
 put-metres-requires : tie.Need-put-metres-requires
-put-metres-requires c κs = rw (c .hundredths-of .ensures) (search room-first)
+put-metres-requires c κs = search (room-front, metres-of)
 
 end-line-requires : tie.Need-end-line-requires
 end-line-requires c κs = search (room-second, metres-of)
@@ -21,4 +24,4 @@ returns : tie.Need-returns
 returns c = search (put-both, metres-of)
 
 pub put-area-spec : {M : Type 1} → statement M
-put-area-spec = tie.close (tie.spec hundredths-of-requires put-metres-requires end-line-requires same-length returns)
+put-area-spec = tie.close (tie.spec hundredths-of-requires add-put-metres put-metres-requires end-line-requires same-length returns)

@@ -1,8 +1,7 @@
--- `put_total` puts the word and the fields, of what the total says.
+-- `put_total` puts the word and the fields.
 use native.Mathlib.Omega.{arith}
 use borrow.Author.Needs.{needs}
 use Rattle.printing.specs.Lines.{lineOf}
-use Rattle.printing.proofs.Lines.{total-parts}
 use Rattle.printing.proofs.Puts.{room-second, put-both}
 use Rattle.printing.proofs.put_total.Statement.{statement}
 use Rattle.printing.proofs.put_total.Tie as tie
@@ -14,17 +13,16 @@ put-word-requires : tie.Need-put-word-requires
 unfolding lineOf
 put-word-requires c κs = omega arith
 
-value-requires : tie.Need-value-requires
-value-requires c κs = search needs
-
 put-counts-requires : tie.Need-put-counts-requires
-put-counts-requires c κs = search (room-second, total-parts)
+unfolding lineOf
+put-counts-requires c κs = search (needs, room-second)
 
 same-length : tie.Need-same-length
 same-length c = search needs
 
 returns : tie.Need-returns
-returns c = search (put-both, total-parts)
+unfolding lineOf
+returns c = search put-both
 
 pub put-total-spec : {M : Type 1} → statement M
-put-total-spec = tie.close (tie.spec slice-aggregate-put-word put-word-requires value-requires put-counts-requires same-length returns)
+put-total-spec = tie.close (tie.spec slice-aggregate-put-word put-word-requires put-counts-requires same-length returns)

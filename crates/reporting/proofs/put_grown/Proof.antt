@@ -41,7 +41,7 @@ put-table-requires c κs =
     let g : tie.After-grow-plan = search needs in
     let a = s .args in
     let e = sym (g .grow-plan .ensures .is) in
-    (subst (λ (l : List ℤ). TableRows (a .t2 .sizes) (a .t2 .k) l (a .table .now) (a .rows)) e (s .pre .0 .1), subst (λ (l : List ℤ). FitsAt (a .out .now) 0 (lines (a .t2) l (a .table .now) (a .rows) (a .probes) (a .total))) e (s .pre .1))
+    ((subst (λ (l : List ℤ). TableRows (a .t2 .sizes) (a .t2 .k) l (a .table .now) (a .rows)) e (s .pre .0 .1), s .pre .0 .2), subst (λ (l : List ℤ). FitsAt (a .out .now) 0 (lines (a .t2) l (a .table .now) (a .rows) (a .probes) (a .total))) e (s .pre .1))
 
 same-length : tie.Need-same-length
 same-length c = search needs

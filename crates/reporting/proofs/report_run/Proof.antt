@@ -2,7 +2,7 @@
 use borrow.Author.Needs.{needs}
 use Rattle.printing.proofs.Puts.{put-same}
 use Rattle.reporting.proofs.Reports.{refused-room}
-use Rattle.reporting.proofs.Runs.{refused-report, printed, rows-run, lines-room}
+use Rattle.reporting.proofs.Runs.{refused-report, printed, total-kept, rows-run, lines-room}
 use Rattle.reporting.proofs.report_run.Statement.{statement}
 use Rattle.reporting.proofs.report_run.Tie as tie
 
@@ -16,7 +16,7 @@ enum-known-run-2 : tie.Need-enum-known-run-2
 enum-known-run-2 c = search needs
 
 put-grown-requires : tie.Need-put-grown-requires
-put-grown-requires c κs = search (rows-run, lines-room)
+put-grown-requires c κs = search (rows-run, lines-room, total-kept)
 
 same-length : tie.Need-same-length
 same-length c = search needs

@@ -11,7 +11,7 @@ use Rattle.roundcells.proofs.round_cells.Statement.{statement}
 use Rattle.roundcells.proofs.round_cells.Tie as tie
 
 abbrev Inv-loop : tie.InvT-loop
-Inv-loop pages cells₀ i₀ cells i = (i ≤ 16) × Filled 4 16 (λ t. pageCells (pageIn pages t)) cells i
+Inv-loop pages cells₀ i₀ cells i = (i ≤ 16) × Filled 5 16 (λ t. pageCells (pageIn pages t)) cells i
 
 abbrev μ-loop : tie.MeasureT-loop
 μ-loop pages cells₀ i₀ cells i = 16 - i
@@ -58,11 +58,11 @@ loop-again c =
     let i = l .loop .i in
     let h = c .before .before .before .before .before .before .loop-test .taken in
     let e = c .before .before .before .before .page-cells .ensures in
-    (omega arith, filled-more 4 16 (λ t. pageCells (pageIn pages t)) (l .loop .cells) i (l .loop .inv .1) _ _ _ (e ∙ ap pageCells (page-at pages i _ (omega (arith, sixteen s)))) (ap length e) (omega (arith, l .loop .inv .1 .long)) (c .before .put-page .ensures))
+    (omega arith, filled-more 5 16 (λ t. pageCells (pageIn pages t)) (l .loop .cells) i (l .loop .inv .1) _ _ _ (e ∙ ap pageCells (page-at pages i _ (omega (arith, sixteen s)))) (ap length e) (omega (arith, l .loop .inv .1 .long)) (c .before .put-page .ensures))
 
 returns : tie.Need-returns Inv-loop μ-loop
 unfolding roundCells
-returns c = let l = c .before in let s = l .before in filled-all 4 16 (λ t. pageCells (pageIn (s .args .t1) t)) (l .loop .cells) (l .loop .i) (omega (arith, c .loop-test .left)) (l .loop .inv .1)
+returns c = let l = c .before in let s = l .before in filled-all 5 16 (λ t. pageCells (pageIn (s .args .t1) t)) (l .loop .cells) (l .loop .i) (omega (arith, c .loop-test .left)) (l .loop .inv .1)
 
 pub round-cells-spec : {M : Type 1} → statement M
 round-cells-spec =

@@ -74,7 +74,7 @@ fn flags(seeds: &mut Seeds, plan: &Plan) -> Result<u64, String> {
             let (number, answer) =
                 fetch_page(&plan.shape, &plan.cells, &good, (&mut after, &mut record), 9, &mut table);
             let told = (number, answer, after, record, table);
-            cases += expect("flags", plan, told, (6, [0; 4], given, [ticket.count], cells_u32(24)))?;
+            cases += expect("flags", plan, told, (6, [0; 5], given, [ticket.count], cells_u32(24)))?;
         }
     }
     Ok(cases)
@@ -122,14 +122,14 @@ fn round_cells(seeds: &mut Seeds, plan: &Plan) -> Result<u64, String> {
     let (mut left, mut after) = (lent.clone(), given);
     let (number, next, answer) = round_in_cells(&mut left, &mut after);
     let past = 12 * m as usize;
-    let due = (0, 1, &given[past..], vec![3, 0, 0, 0].repeat(16 - m as usize));
+    let due = (0, 1, &given[past..], vec![3, 0, 0, 0, 0].repeat(16 - m as usize));
     let mut cases =
-        expect("round past m", plan, (number, next, &after[past..], answer[4 * m as usize..].to_vec()), due)?;
+        expect("round past m", plan, (number, next, &after[past..], answer[5 * m as usize..].to_vec()), due)?;
     let (mut left, at) = (lent.clone(), 12 * seeds.below(u64::from(m)) as usize);
     given[at] = seeds.pick(&[2, 3, 256, u32::MAX]);
     let mut after = given;
     let told = round_in_cells(&mut left, &mut after);
-    cases += expect("round flags", plan, (told, after, left), ((6, 0, [0; 64]), given, lent))?;
+    cases += expect("round flags", plan, (told, after, left), ((6, 0, [0; 80]), given, lent))?;
     Ok(cases)
 }
 
@@ -141,7 +141,7 @@ fn timed_cells(seeds: &mut Seeds, plan: &Plan) -> Result<u64, String> {
     given[0] = seeds.pick(&[2, 3, 256, u32::MAX]);
     let (mut left, mut after) = (lent.clone(), given);
     let told = timed_page(&mut left, &mut after);
-    let mut cases = expect("timed flags", plan, (told, after, left), ((6, [0; 4]), given, lent.clone()))?;
+    let mut cases = expect("timed flags", plan, (told, after, left), ((6, [0; 5]), given, lent.clone()))?;
     let count = seeds.pick(&[5, (1 << 32) - 1, 7 << 32, (1 << 57) - 1]);
     let mut given = cells_of(&lent.ticket.after(count));
     let mut left = lent;

@@ -4,7 +4,7 @@ use overlay_tests::crossings::{ClassTold, Crossings, Report};
 use overlay_tests::hours::{self, HoursTold, Timed};
 use overlay_tests::nearest::{Near, NearestTold};
 use overlay_tests::overlay::{
-    CommonTold, Overlay, Page, PairTold, Reading, RowTold, Run, Shape, Stop, Ticket, Writing,
+    CommonTold, Overlay, Page, PairTold, Reading, RowTold, Run, Shape, Stop, Ticket, Total, Writing,
 };
 use overlay_tests::rounds::{Lent, RoundTold};
 use overlay_tests::surveys::{Covered, Survey};
@@ -265,8 +265,9 @@ fn small(cell: u64) -> u32 {
 }
 
 /// A whole run's number and answer.
-fn run_of(number: u32, answer: [u64; 4]) -> Run {
-    let [rows, trials, area, ground] = answer;
+fn run_of(number: u32, answer: [u64; 6]) -> Run {
+    let [rows, trials, metres, rest, ground, beside] = answer;
+    let (area, ground) = (Total { metres, rest }, Total { metres: ground, rest: beside });
     Run { number, rows: small(rows), trials, area, ground }
 }
 
@@ -336,8 +337,8 @@ pub fn fetch_page(
     (ticket, record): (&mut Cells, &mut [u64]),
     budget: u32,
     table: &mut [u32],
-) -> (u32, [u64; 4]) {
-    let mut answer = [UNWRITTEN; 4];
+) -> (u32, [u64; 5]) {
+    let mut answer = [UNWRITTEN; 5];
     // SAFETY: every pointer comes from a reference, with its length; those written to are exclusive.
     let number = unsafe {
         overlay_fetch_page(
@@ -361,8 +362,8 @@ pub fn fetch_page(
 }
 
 /// The timed page call on a ticket's cells, with all else from what is lent: the number and the answer.
-pub fn timed_page(lent: &mut hours::Lent, ticket: &mut Cells) -> (u32, [u64; 4]) {
-    let mut answer = [UNWRITTEN; 4];
+pub fn timed_page(lent: &mut hours::Lent, ticket: &mut Cells) -> (u32, [u64; 5]) {
+    let mut answer = [UNWRITTEN; 5];
     let hours::Lent { plan, hours, order, record, budget, table, .. } = lent;
     // SAFETY: every pointer comes from a reference, with its length; those written to are exclusive.
     let number = unsafe {
@@ -389,8 +390,8 @@ pub fn timed_page(lent: &mut hours::Lent, ticket: &mut Cells) -> (u32, [u64; 4])
 }
 
 /// The round call on sixteen tickets' cells: the number, `next`, and the cells of the answer.
-pub fn round_in_cells(lent: &mut Lent, tickets: &mut [u32; 192]) -> (u32, u32, [u64; 64]) {
-    let (mut next, mut answer) = (UNWRITTEN as u32, [UNWRITTEN; 64]);
+pub fn round_in_cells(lent: &mut Lent, tickets: &mut [u32; 192]) -> (u32, u32, [u64; 80]) {
+    let (mut next, mut answer) = (UNWRITTEN as u32, [UNWRITTEN; 80]);
     let Lent { plan, order, m, first, budget, records, table, .. } = lent;
     // SAFETY: every pointer comes from a reference, with its length; those written to are exclusive.
     let number = unsafe {
@@ -425,7 +426,8 @@ pub fn round(lent: &mut Lent) -> RoundTold {
     }
     let (number, next, answer) = round_in_cells(lent, &mut tickets);
     let page = |at: usize| {
-        let [code, rows, trials, area] = answer[4 * at..4 * at + 4].try_into().expect("four cells");
+        let [code, rows, trials, metres, rest] = answer[5 * at..5 * at + 5].try_into().expect("five cells");
+        let area = Total { metres, rest };
         let ticket = ticket_in(tickets[12 * at..12 * at + 12].try_into().expect("twelve cells"));
         Page { stop: stop_of(number, code), rows: small(rows), trials: small(trials), area, ticket }
     };
@@ -560,18 +562,18 @@ impl Overlay for Library {
     ) -> Page {
         let mut given = cells_of(ticket);
         let (number, answer) = fetch_page(shape, cells, order, (&mut given, record), budget, table);
-        let [code, rows, trials, area] = answer;
+        let [code, rows, trials, metres, rest] = answer;
         Page {
             stop: stop_of(number, code),
             rows: small(rows),
             trials: small(trials),
-            area,
+            area: Total { metres, rest },
             ticket: ticket_in(&given),
         }
     }
 
     fn run(&self, shape: &Shape, cells: &[i32], order: &[u32], table: &mut [u32], work: &mut [i32]) -> Run {
-        let mut answer = [UNWRITTEN; 4];
+        let mut answer = [UNWRITTEN; 6];
         // SAFETY: every pointer comes from a reference, with its length; those written to are exclusive.
         let number = unsafe {
             overlay_run_all(
@@ -656,7 +658,7 @@ impl Crossings for Library {
         table: &mut [u32],
         work: &mut [i32],
     ) -> Report {
-        let (mut answer, mut counts) = ([UNWRITTEN; 4], [UNWRITTEN as u32; 17]);
+        let (mut answer, mut counts) = ([UNWRITTEN; 6], [UNWRITTEN as u32; 17]);
         // SAFETY: every pointer comes from a reference, with its length; those written to are exclusive.
         let number = unsafe {
             overlay_crossing_report(
@@ -687,18 +689,18 @@ impl Timed for Library {
     fn page(&self, lent: &mut hours::Lent) -> Page {
         let mut given = cells_of(&lent.ticket);
         let (number, answer) = timed_page(lent, &mut given);
-        let [code, rows, trials, area] = answer;
+        let [code, rows, trials, metres, rest] = answer;
         Page {
             stop: stop_of(number, code),
             rows: small(rows),
             trials: small(trials),
-            area,
+            area: Total { metres, rest },
             ticket: ticket_in(&given),
         }
     }
 
     fn run(&self, lent: &mut hours::Lent) -> Run {
-        let mut answer = [UNWRITTEN; 4];
+        let mut answer = [UNWRITTEN; 6];
         let hours::Lent { plan, hours, order, table, work, .. } = lent;
         // SAFETY: every pointer comes from a reference, with its length; those written to are exclusive.
         let number = unsafe {
