@@ -153,6 +153,8 @@ answers-in-cells = record {
   run = λ number rows probes area ground. refl;
   row = λ number layer area. refl;
   common = λ number kind left bottom right top. refl;
+  pair = λ number lower higher. refl;
+  hours = λ number from to. refl;
 }
 
 pub shapes-in-cells : ShapesInCells

@@ -19,7 +19,7 @@ use Rattle.paging.specs.Theorems.{Call, served, begun, firstCause, PagingHolds,
 use Rattle.survey.specs.declared.Strip.{Strip}
 use Rattle.survey.specs.declared.Strip.the-variants.{Free, From, To, Between}
 use Rattle.survey.specs.CoverCall.{coverCause}
-use Rattle.cells.specs.Cells.{shapeOf, ticketCells, ticketIn, stopCode, pageCells, ticketAfter, runCells, rowCells, commonCells, stripIn, acrossIn, upwardIn}
+use Rattle.cells.specs.Cells.{shapeOf, ticketCells, ticketIn, stopCode, pageCells, ticketAfter, runCells, rowCells, commonCells, stripIn, acrossIn, upwardIn, pairCells, hoursCells}
 
 -- a list of exported page calls in one run, timed or not, by the calls that they hand on: an accepted one brings, in its ticket's cells, what the fresh call or an accepted one
 -- before it left there, and the counter as the last of them left it. `tickets` are these cells, the newest first. A refused call may bring anything
@@ -60,6 +60,10 @@ pub record AnswersInCells : Type 0 where
   -- a row's common ground: left, bottom, right and top, then the letter of its kind
   pub common : (number kind : ℕ) (left bottom right top : ℤ)
       → commonCells (record { number = number; kind = kind; left = left; bottom = bottom; right = right; top = top }) ≡ left ∷ bottom ∷ right ∷ top ∷ pos kind ∷ []
+  -- a pair of layers: the lower, then the higher
+  pub pair : (number lower higher : ℕ) → pairCells (record { number = number; lower = lower; higher = higher }) ≡ lower ∷ higher ∷ []
+  -- 02, Q-12: "the first shared minute and the first after them"
+  pub hours : (number from to : ℕ) → hoursCells (record { number = number; from = from; to = to }) ≡ from ∷ to ∷ []
 
 pub record StripsInCells : Type 0 where
   -- the kinds, and which stop stands where
