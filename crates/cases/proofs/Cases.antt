@@ -7,18 +7,21 @@ use lib.Dec.{lit≤}
 use lib.IntN.{pos, ℤ}
 use lib.ListN.{length, getD-replicate, length-replicate}
 use borrow.Author.Tests.{le-leb, eq-eqb}
-use Rattle.lists.specs.Lists.{All, none-left, _and_, same, Pairwise, done, _then_}
+use Rattle.lists.specs.Lists.{All, none-left, _and_, same, done, _then_}
+use Rattle.lists.proofs.Tests.{below-all}
 use Rattle.totals.specs.Totals.{totalOf, valueOf}
 use Rattle.geometry.specs.Rectangles as Rectangles
 use Rattle.geometry.specs.Rectangles.{maxZ, minZ, common, nonempty, meets, between, held, inRange, grownBy, areaOf, inExtent}
 use Rattle.geometry.proofs.Machine.{rect-eq}
 use Rattle.plan.specs.Plan.{rectAt, grown, fitsAt, planCause, layers}
-use Rattle.plan.proofs.Plan.{ranged-all}
 use Rattle.sweep.specs.Sweep.{before, sweepOrder, orderCause}
 use Rattle.join.specs.Join.{areaIn, kindIn, sameZ}
 use Rattle.join.specs.Table.{same-spot, belongs, tableOf}
 use Rattle.rows.specs.RowCall.{isRow, rowCall, commonCall}
 use Rattle.walk.specs.Walk.{walkOf}
+use Rattle.windows.specs.Windows.{windowAt, isWindow, areHours, isOpen}
+use Rattle.windows.specs.HoursCall.{hoursCause, hoursCall}
+use Rattle.timed.specs.Timed.{timedWalkOf, timedTableOf}
 use Rattle.paging.specs.Cursors.{sameCursor, resume}
 use Rattle.paging.specs.Calls.{current, freshCause, freshCall, freshCounter, pageCause, pageCall, pageTable, pageCounter, runCause, runCall}
 use Rattle.decimal.specs.Numerals.{size, decimal}
@@ -57,7 +60,7 @@ one-layer n h =
     rw (
       le-leb n 512 h,
       eq-eqb (length (alike n)) (4 * (n + 0)) (omega arith),
-      ranged-all (alike n) (length (alike n) / 4) (λ i k. ap inRange (point-at n i (omega arith)) ∙ (unfold held between nonempty in refl)),
+      below-all (λ j. inRange (rectAt (alike n) j)) (length (alike n) / 4) (λ i k. ap inRange (point-at n i (omega arith)) ∙ (unfold held between nonempty in refl)),
     )
 
 -- ---- reports: the union of a table's rows is not computed square by square
@@ -109,7 +112,7 @@ _also_ : {c : Case} {cs : List Case} → Holds c → All Holds cs → All Holds 
 _also_ h hs = _and_ h hs
 
 pub ground-holds : GroundHolds
-unfolding totalOf valueOf maxZ minZ common nonempty meets Rectangles.kindOf between held areaOf rectAt grownBy grown fitsAt planCause before sweepOrder orderCause areaIn kindIn sameZ same-spot belongs tableOf isRow rowCall commonCall walkOf same sameCursor resume current freshCause freshCall freshCounter pageCause pageCall pageTable pageCounter readCause textShape textCells linesOf line number kindOf shapeIn agrees size decimal Lines.lineOf rowFields squareMetres runCause runCall emptyTable reportCause reportOf
+unfolding windowAt isWindow areHours isOpen hoursCause hoursCall timedTableOf timedWalkOf totalOf valueOf maxZ minZ common nonempty meets Rectangles.kindOf between held areaOf rectAt grownBy grown fitsAt planCause before sweepOrder orderCause areaIn kindIn sameZ same-spot belongs tableOf isRow rowCall commonCall walkOf same sameCursor resume current freshCause freshCall freshCounter pageCause pageCall pageTable pageCounter readCause textShape textCells linesOf line number kindOf shapeIn agrees size decimal Lines.lineOf rowFields squareMetres runCause runCall emptyTable reportCause reportOf
 ground-holds =
     (refl, refl, refl)
     also (refl, refl, refl, refl, refl, refl, refl, (refl, refl, refl, refl, refl, refl, refl, tt))
@@ -182,6 +185,17 @@ ground-holds =
     also (refl, refl, refl)
     also (refl, refl, refl, refl, refl, refl, refl, tt)
     also refl
+    also refl
+    also refl
+    also refl
+    also refl
+    also refl
+    also refl
+    also refl
+    also (refl, refl, refl)
+    also (refl, refl, refl)
+    also (refl, refl, refl)
+    also (refl, refl, refl)
     also refl
     also refl
     also refl

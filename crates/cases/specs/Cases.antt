@@ -17,6 +17,8 @@ use Rattle.sweep.specs.Sweep.{sweepOrder}
 use Rattle.join.specs.Table.{tableOf}
 use Rattle.rows.specs.RowCall.{rowCall, rowValues, commonCall, commonValues}
 use Rattle.walk.specs.Walk.{walkOf}
+use Rattle.windows.specs.HoursCall.{hoursCause, hoursCall, hoursValues}
+use Rattle.timed.specs.Timed.{timedWalkOf, timedTableOf}
 use Rattle.paging.specs.declared.Cursor.{Cursor}
 use Rattle.paging.specs.declared.Ticket.{Ticket}
 use Rattle.search.specs.declared.Stop.{Stop}
@@ -49,6 +51,12 @@ pub record Turn : Type 0 where
   pub after : List ℕ
   pub due : Ticket
 
+-- a row, the first minute that its windows share, and the first after them
+pub record Shared : Type 0 where
+  pub places : List ℕ
+  pub from : ℕ
+  pub to : ℕ
+
 pub data Case : Type 0 where
   -- a plan is refused with this cause, or with 0 is sound
   Caused : Shape → List ℤ → ℕ → Case
@@ -62,6 +70,12 @@ pub data Case : Type 0 where
   Paged : Shape → List ℤ → List Turn → Case
   -- a ticket and a counter, and the cause of a page call that brings them, or 0
   Judged : Shape → List ℤ → Ticket → List ℕ → ℕ → Case
+  -- the windows of a plan, and the cause of plan and windows, or 0
+  Windowed : Shape → List ℤ → (hours : List ℕ) → ℕ → Case
+  -- ... the cells of a row, the first minute that its windows share and the first after them; 0 and 0 where there is none
+  Asked : Shape → List ℤ → (hours row : List ℕ) → (from to : ℕ) → Case
+  -- ... the rows of the timed table, each with the first minute that its windows share and the first after them, and the timed walk's length
+  Timed : Shape → List ℤ → (hours : List ℕ) → List Shared → ℕ → Case
   -- an area sum, the whole square metres and the rest that it is kept as, and the square metres that are printed for it
   Rounded : (areaSum metres rest : ℕ) → List ℕ → Case
   -- a text, and what is printed for it
@@ -70,6 +84,10 @@ pub data Case : Type 0 where
 -- what the row call and the call for its common ground tell of a row
 abbrev pub toldRow : Shape → List ℤ → List ℕ → Told
 toldRow s cells row = let v = rowValues (rowCall s cells row) in record { layer = v .layer; places = row; area = v .area; kind = commonValues (commonCall s cells row) .kind }
+
+-- what the call for its shared minutes tells of a row
+abbrev pub toldHours : Shape → List ℤ → (hours row : List ℕ) → Shared
+toldHours s cells hours row = let v = hoursValues (hoursCall s cells hours row) in record { places = row; from = v .from; to = v .to }
 
 -- the ticket of a cursor and a count
 abbrev pub counting : Cursor → ℕ → Ticket
@@ -95,6 +113,10 @@ Holds (Fresh s cells c) = (freshCall s cells (sweepOrder (grown s cells)) (7 ∷
 Holds (Read t cells r after) = (readAnswer (length cells) t ≡ r) × (cellsAfter t cells ≡ after)
 Holds (Paged s cells ts) = Turns s cells (freshCall s cells (sweepOrder (grown s cells)) (7 ∷ []) .ticket) (freshCounter s cells (sweepOrder (grown s cells)) (7 ∷ [])) ts
 Holds (Judged s cells t counter cause) = pageCause s cells (sweepOrder (grown s cells)) t counter ≡ cause
+Holds (Windowed s cells hours cause) = hoursCause s cells hours ≡ cause
+Holds (Asked s cells hours row from to) = hoursValues (hoursCall s cells hours row) ≡ record { number = 0; from = from; to = to }
+Holds (Timed s cells hours rows probes) =
+    (hoursCause s cells hours ≡ 0) × (map (toldHours s cells hours) (timedTableOf (sizesOf s) (grown s cells) hours) ≡ rows) × (length (timedWalkOf (sizesOf s) (grown s cells) hours) ≡ probes)
 Holds (Rounded areaSum metres rest printed) = (totalOf areaSum ≡ record { metres = metres; rest = rest }) × (squareMetres (hundredths (valueOf (totalOf areaSum))) ≡ printed)
 Holds (Reported t printed) = reportOf t ≡ printed
 
@@ -115,6 +137,9 @@ shape = margined 0 0 0
 
 abbrev pub row : ℕ → List ℕ → ℕ → ℕ → Told
 row layer places area kind = record { layer = layer; places = places; area = area; kind = kind }
+
+abbrev pub shared : List ℕ → (from to : ℕ) → Shared
+shared places from to = record { places = places; from = from; to = to }
 
 -- the letters of the kinds
 abbrev pub G : ℕ
@@ -155,6 +180,10 @@ twoAlike = box 2 2 4 4 one
 -- a plan of three layers: the rows of its one guard that has any, of layer 2, differ by their area
 abbrev pub three : List ℤ
 three = box 0 0 10 10 (box 0 0 10 9 (box 5 0 10 10 (box 1 0 10 10 (box 2 0 8 10 []))))
+
+-- three layers of one rectangle: the first two share ground and touch the third in a point
+abbrev pub corner : List ℤ
+corner = box 0 0 10 10 (box 5 5 10 10 (box 10 10 20 20 []))
 
 -- the cells of n rectangles that are all the point 0, 0
 abbrev pub alike : ℕ → List ℤ
@@ -348,6 +377,22 @@ cases =
     ∷ Judged d dCells (counting (first 3 0 0) 0) (2 ∷ []) 6
     ∷ Judged d dCells (counting (first 2 0 1) 144115188075855871) (144115188075855871 ∷ []) 0
     ∷ Judged d dCells (counting (first 2 0 1) 144115188075855872) (144115188075855872 ∷ []) 18
+    -- ours, of Q-12: D with windows of which those of the second row only touch: "the from minute included and the to minute not"; one minute more, and it is
+    -- listed too
+    ∷ Timed d dCells (0 ∷ 100 ∷ 100 ∷ 10080 ∷ 50 ∷ 100 ∷ []) (shared (0 ∷ 0 ∷ []) 50 100 ∷ []) 4
+    ∷ Timed d dCells (0 ∷ 100 ∷ 100 ∷ 10080 ∷ 50 ∷ 101 ∷ []) (shared (0 ∷ 0 ∷ []) 50 100 ∷ shared (1 ∷ 0 ∷ []) 100 101 ∷ []) 4
+    -- a row of three layers, five trials; where the first two layers share no minute, the trial behind the second guard's first is not made
+    ∷ Timed (shape 3 1 1 1) corner (0 ∷ 30 ∷ 10 ∷ 20 ∷ 5 ∷ 10080 ∷ []) (shared (0 ∷ 0 ∷ 0 ∷ []) 10 20 ∷ []) 5
+    ∷ Timed (shape 3 1 1 1) corner (0 ∷ 10 ∷ 10 ∷ 20 ∷ 5 ∷ 10080 ∷ []) [] 4
+    -- "for other cells 0 and 0": a row of D whose windows only touch, places that name no row, and cells that are no places of D
+    ∷ Asked d dCells (0 ∷ 100 ∷ 100 ∷ 10080 ∷ 50 ∷ 100 ∷ []) (1 ∷ 0 ∷ []) 0 0
+    ∷ Asked d dCells (0 ∷ 100 ∷ 100 ∷ 10080 ∷ 50 ∷ 100 ∷ []) (2 ∷ 0 ∷ []) 0 0
+    ∷ Asked d dCells (0 ∷ 100 ∷ 100 ∷ 10080 ∷ 50 ∷ 100 ∷ []) (0 ∷ []) 0 0
+    -- "the buffer not 2n cells or a window not as stated, 24, after 4"
+    ∷ Windowed d dCells (0 ∷ 100 ∷ 100 ∷ 10080 ∷ 50 ∷ []) 24
+    ∷ Windowed d dCells (0 ∷ 100 ∷ 100 ∷ 10081 ∷ 50 ∷ 100 ∷ []) 24
+    ∷ Windowed d dCells (0 ∷ 100 ∷ 100 ∷ 100 ∷ 50 ∷ 100 ∷ []) 24
+    ∷ Windowed (shape 2 1 0 0) (box 5 0 0 5 []) [] 4
     ∷ []
 
 abbrev pub GroundHolds : Type 0

@@ -1,6 +1,5 @@
 -- Laws of the rectangles that the code reads: of one layer, and of a row in one layer.
-use mathlib.Core.Path.{_≡_, refl, sym, ap, ap₂, _∙_, subst}
-use mathlib.Core.Logic.{⊎-elim}
+use mathlib.Core.Path.{_≡_, refl, sym, ap, ap₂, _∙_}
 use mathlib.Core.List.{List, [], _∷_}
 use mathlib.Core.Bool.{Bool, true, false, _&&_}
 use Prim.Native.Nat.{ℕ, zero, suc, _+_, _-_, _*_, _≤_, _<_}
@@ -13,7 +12,7 @@ use mir.Syntax.{w32}
 use mir.Val.{SFits, toZ, ofZ}
 use mir.Facts.{toZ-ofZ}
 use Rattle.lists.specs.Lists.{sum}
-use Rattle.lists.proofs.Tests.{both, and-true, clash, never-true, total}
+use Rattle.lists.proofs.Tests.{both}
 use Rattle.geometry.specs.declared.Rect.{Rect}
 use Rattle.geometry.specs.Rectangles.{nonempty}
 use Rattle.plan.specs.Plan.{Layer, rectAt, layersOf}
@@ -62,26 +61,6 @@ lie-same level (suc n) f g h = ap₂ _&&_ (lie-same level n f g (λ p k. h p (om
 
 pub layer-lies : (level : Bool) (ns : List ℕ) (cells : List ℤ) (j : ℕ) → layerLies level (layersOf ns cells) j ≡ allLie level (getD ns j 0) (λ p. rectAt cells (sum (take j ns) + p))
 layer-lies level ns cells j = rw (size-of ns cells j) (lie-same level (getD ns j 0) _ _ (rect-at-number ns cells j))
-
--- rectangle by rectangle
-pub lie-more : (level : Bool) (n : ℕ) (f : ℕ → Rect) → allLie level n f ≡ true → lies level (f n) ≡ true → allLie level (n + 1) f ≡ true
-lie-more level n f h e = rw add-one (and-true (allLie level n f) (lies level (f n)) h e)
-
-pub lie-at : (level : Bool) (n : ℕ) (f : ℕ → Rect) → allLie level n f ≡ true → (p : ℕ) → p < n → lies level (f p) ≡ true
-lie-at level zero f e p h = absurd (omega arith)
-lie-at level (suc n) f e p h =
-    let b = both (allLie level n f) (lies level (f n)) e in
-    ⊎-elim (λ q. let z : n ≡ p = omega arith in subst (λ (m : ℕ). lies level (f m) ≡ true) z (b .1)) (λ q. lie-at level n f (b .0) p q) (total n p)
-
-pub lie-all : (level : Bool) (n : ℕ) (f : ℕ → Rect) → ((p : ℕ) → p < n → lies level (f p) ≡ true) → allLie level n f ≡ true
-lie-all level zero f h = refl
-lie-all level (suc n) f h = and-true (allLie level n f) (lies level (f n)) (lie-all level n f (λ p k. h p (omega arith))) (h n (omega arith))
-
-pub lie-not : (level : Bool) (n : ℕ) (f : ℕ → Rect) (p : ℕ) → p < n → lies level (f p) ≡ false → false ≡ allLie level n f
-lie-not level n f p h e = sym (never-true (allLie level n f) (λ t. clash (lie-at level n f t p h) e))
-
-pub lie-end : (level : Bool) (i n : ℕ) (f : ℕ → Rect) → allLie level i f ≡ true → i ≤ n → n ≤ i → true ≡ allLie level n f
-lie-end level i n f e h k = let q : i ≡ n = omega arith in sym (subst (λ (m : ℕ). allLie level m f ≡ true) q e)
 
 -- ---- the last two layers
 module _ (sizes : List ℕ) (k : ℕ) (cells : List ℤ) (l : k ≤ length sizes) (f : Framed (take k sizes) cells) where

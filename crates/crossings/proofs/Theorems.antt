@@ -2,14 +2,14 @@
 use mathlib.Core.Path.{_≡_, refl, _∙_}
 use mathlib.Core.List.{List}
 use mathlib.Core.Bool.{Bool, true, false, _&&_}
-use Prim.Native.Nat.{ℕ, suc, _-_, _≤_}
+use Prim.Native.Nat.{ℕ, suc, _-_}
 use native.Mathlib.Omega.{arith}
 use lib.IntN.{ℤ}
 use lib.Dec.{eqb, leb}
 use borrow.Author.Tests.{eqb-true, eq-eqb}
 use lib.ListN.{length, getD}
 use Rattle.lists.specs.Lists.{Tells}
-use Rattle.lists.proofs.Tests.{both, and-true, never-true, tells, le-tells}
+use Rattle.lists.proofs.Tests.{both, and-true, never-true, tells, le-tells, below-at, below-all}
 use Rattle.geometry.specs.declared.Rect.{Rect}
 use Rattle.plan.specs.declared.Shape.{Shape}
 use Rattle.plan.specs.Causes.{unless, _orElse_}
@@ -29,7 +29,7 @@ use Rattle.crossings.specs.declared.ClassAnswer.the-variants.{Refused, N
 use Rattle.crossings.specs.Crossings.{classIn}
 use Rattle.crossings.specs.ClassCall.{lies, allLie, segmented, unwidened, crossingCause, classCall}
 use Rattle.crossings.specs.Theorems.{Segments, CrossingCauses, ClassesHold, Crossings}
-use Rattle.crossings.proofs.Reading.{lie-at, lie-all, row-shares, rects-long}
+use Rattle.crossings.proofs.Reading.{row-shares, rects-long}
 use Rattle.crossings.proofs.Answers.{cause-sound, cause-three}
 use Rattle.crossings.proofs.Numbers.{covers-in, in-covers, is-class}
 
@@ -80,12 +80,12 @@ segments-tell s cells sound = rw k (tells _ to from)
         let b = both (eqb m 0 && eqb n 0) (level && upright) e in
         let w = both (eqb m 0) (eqb n 0) (b .0) in
         let l = both level upright (b .1) in
-        record { horizontal = λ p i. lies-level _ (lie-at true (h .size) (h .rect) (l .0) p i); vertical = λ p i. lies-upright _ (lie-at false (v .size) (v .rect) (l .1) p i); level = eqb-true m 0 (w .0); upright = eqb-true n 0 (w .1) }
+        record { horizontal = λ p i. lies-level _ (below-at (λ q. lies true (h .rect q)) (h .size) p (l .0) i); vertical = λ p i. lies-upright _ (below-at (λ q. lies false (v .rect q)) (v .size) p (l .1) i); level = eqb-true m 0 (w .0); upright = eqb-true n 0 (w .1) }
 
     from : Segments s cells → ((eqb m 0 && eqb n 0) && (level && upright)) ≡ true
     from g =
         and-true (eqb m 0 && eqb n 0) (level && upright) (and-true (eqb m 0) (eqb n 0) (eq-eqb m 0 (g .level)) (eq-eqb n 0 (g .upright)))
-        (and-true level upright (lie-all true (h .size) (h .rect) (λ p l. level-lies _ (g .horizontal p l))) (lie-all false (v .size) (v .rect) (λ p l. upright-lies _ (g .vertical p l))))
+        (and-true level upright (below-all (λ q. lies true (h .rect q)) (h .size) (λ p l. level-lies _ (g .horizontal p l))) (below-all (λ q. lies false (v .rect q)) (v .size) (λ p l. upright-lies _ (g .vertical p l))))
 
 crossing-causes : (s : Shape) (cells : List ℤ) → Typed s → CrossingCauses s cells
 unfolding crossingCause

@@ -1,11 +1,11 @@
 -- The class call (02, Q-2): "takes a plan and a row's cells and returns the class, 17 where they name no row"; its checks 15 and 16; how many rows fall in each class.
 use mathlib.Core.List.{List, [], _∷_}
 use mathlib.Core.Bool.{Bool, true, false, cond, _&&_}
-use Prim.Native.Nat.{ℕ, zero, suc, _-_}
+use Prim.Native.Nat.{ℕ, _-_}
 use lib.IntN.{ℤ}
 use lib.Dec.{eqb, leb}
 use lib.ListN.{length, getD}
-use Rattle.lists.specs.Lists.{each, keep}
+use Rattle.lists.specs.Lists.{each, keep, holdsBelow}
 use Rattle.geometry.specs.declared.Rect.{Rect}
 use Rattle.plan.specs.declared.Shape.{Shape}
 use Rattle.plan.specs.Causes.{unless, _orElse_, onCause}
@@ -24,8 +24,7 @@ lies level r = cond level (sameZ (r .bottom) (r .top)) (sameZ (r .left) (r .righ
 
 -- the first n rectangles of a layer are such segments
 abbrev pub allLie : (level : Bool) → ℕ → (ℕ → Rect) → Bool
-allLie level zero rect = true
-allLie level (suc n) rect = allLie level n rect && lies level (rect n)
+allLie level n rect = holdsBelow (λ p. lies level (rect p)) n
 
 -- all of layer i, counted from 0
 abbrev pub layerLies : (level : Bool) → List Layer → ℕ → Bool

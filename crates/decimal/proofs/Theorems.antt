@@ -1,19 +1,17 @@
 -- The theorem `Numbers`: what is spelled and read is what the bytes say in base ten.
 use mathlib.Core.Path.{_≡_, refl, sym, ap, ap₂, _∙_, subst}
 use mathlib.Core.List.{List, [], _∷_, _++_, append-cancel-right}
-use mathlib.Core.Option.{some}
-use mathlib.Core.Bool.{true, false}
-use mathlib.Core.Logic.{_↔_, _⊎_, inl, inr}
+use mathlib.Core.Bool.{true}
+use mathlib.Core.Logic.{_⊎_, inl, inr}
 use Prim.Native.Nat.{ℕ, zero, suc, _+_, _-_, _*_, _/_, _%_, _^_, _≤_, _<_}
-use native.Mathlib.Nat.{pow-zero, div-one, div-le-self, le-refl}
+use native.Mathlib.Nat.{pow-zero, div-one, div-le-self}
 use native.Mathlib.Omega.{arith}
 use lib.Dec.{lit≤}
-use lib.IntN.{ℤ, pos, negsuc, negℤ}
+use lib.IntN.{ℤ, pos, negsuc}
 use lib.ListN.{length}
 use borrow.Author.Tests.{ltb-true, lt-ltb}
 use Rattle.lists.specs.Lists.{All, none-left, _and_}
 use Rattle.decimal.specs.Numerals.{digits, size, decimal, numeral, short}
-use Rattle.decimal.specs.Bytes.{kindOf, isDigit}
 use Rattle.decimal.specs.Reading.{number}
 use Rattle.decimal.specs.Theorems.{DigitByte, valueFrom, Magnitude, Spells, nought, plain, minus, Numbers}
 use Rattle.decimal.proofs.Powers.{tenfold, powers}

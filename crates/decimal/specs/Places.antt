@@ -1,4 +1,4 @@
--- Numbers read from a place of a text, as the code does: what `decimal` promises `line`; no public call's contract cites it.
+-- Numbers read from a place of a text, as the code does: what reading numbers promises reading lines (both in `lexer`); no public call's contract cites it.
 use mathlib.Core.Path.{_≡_}
 use mathlib.Core.List.{List}
 use mathlib.Core.Option.{none, some}

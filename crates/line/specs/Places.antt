@@ -1,4 +1,4 @@
--- Lines read from a place of a text, as the code does: what `line` promises `text`; no public call's contract cites it.
+-- Lines read from a place of a text, as the code does: what `lexer` promises `reader`; no public call's contract cites it.
 use mathlib.Core.Path.{_≡_}
 use mathlib.Core.List.{List, [], _∷_}
 use mathlib.Core.Option.{none, some}

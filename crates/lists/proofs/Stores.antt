@@ -100,9 +100,6 @@ module _ {A : Type 0} where
     pub left-last : (cells last : List A) (r : ℕ) → Put buf at cells last r → Left first start whole buf at cells → Put first start whole last r
     left-last cells last r p l = record { place = omega (arith, p .place, l .place); stored = p .stored ∙ l .gives }
 
-    pub left-fits : (cells : List A) → start + length whole ≤ length first → Left first start whole buf at cells → at + length cells ≤ length buf
-    left-fits cells h l = omega (arith, l .place, l .long)
-
   -- what is put at the start stands before the rest of the buffer
   pub put-start : (buf last cells : List A) (r : ℕ) → length cells ≤ length buf → Put buf 0 cells last r → last ≡ cells ++ drop (length cells) buf
   put-start buf last cells r h p =

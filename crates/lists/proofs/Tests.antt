@@ -2,12 +2,13 @@
 use mathlib.Core.Path.{_≡_, refl, sym, _∙_, subst}
 use mathlib.Core.Bool.{Bool, true, false, not, cond, _&&_}
 use mathlib.Core.Logic.{_⊎_, inl, inr}
-use Prim.Native.Nat.{ℕ, _+_, _≤_, _<_}
+use Prim.Native.Nat.{ℕ, zero, suc, _+_, _≤_, _<_}
 use native.Mathlib.Omega.{arith}
+use native.Mathlib.Numerals.{add-one}
 use lib.Dec.{T, leb, leb→le, nleb→lt}
 use mir.Val.{boolByte}
 use borrow.Author.Tests.{leb-true, le-leb}
-use Rattle.lists.specs.Lists.{Tells}
+use Rattle.lists.specs.Lists.{Tells, holdsBelow}
 
 -- a flag as a number
 pub as-number : (t : Bool) → boolByte t ≡ cond t 1 0
@@ -76,3 +77,32 @@ one-more P lo i h p k a b = go (split-last k i b)
     go : (k < i) ⊎ (k ≡ i) → P k
     go (inl q) = h k a q
     go (inr e) = subst P (sym e) p
+
+-- ---- a test at each number below n: one more, at one of them, from all of them, where one fails, at the end of a loop
+pub below-more : (t : ℕ → Bool) (i : ℕ) → holdsBelow t i ≡ true → t i ≡ true → holdsBelow t (i + 1) ≡ true
+below-more t i h e = rw add-one (and-true (holdsBelow t i) (t i) h e)
+
+pub below-at : (t : ℕ → Bool) (n k : ℕ) → holdsBelow t n ≡ true → k < n → t k ≡ true
+below-at t zero k e h = absurd (omega arith)
+below-at t (suc n) k e h = go (total n k) (below-at t n k (b .0))
+  where
+    b : (holdsBelow t n ≡ true) × (t n ≡ true)
+    b = both (holdsBelow t n) (t n) e
+
+    go : (n ≤ k) ⊎ (k < n) → (k < n → t k ≡ true) → t k ≡ true
+    go (inl p) i = subst (λ (m : ℕ). t m ≡ true) (omega arith) (b .1)
+    go (inr p) i = i p
+
+pub below-all : (t : ℕ → Bool) (n : ℕ) → ((k : ℕ) → k < n → t k ≡ true) → holdsBelow t n ≡ true
+below-all t zero f = refl
+below-all t (suc n) f = and-true (holdsBelow t n) (t n) (below-all t n (λ k h. f k (omega arith))) (f n (omega arith))
+
+pub below-not : (t : ℕ → Bool) (n k : ℕ) → k < n → t k ≡ false → false ≡ holdsBelow t n
+below-not t n k h e = go (holdsBelow t n) refl
+  where
+    go : (b : Bool) → holdsBelow t n ≡ b → false ≡ b
+    go true f = clash (below-at t n k f h) e
+    go false f = refl
+
+pub below-end : (t : ℕ → Bool) (i n : ℕ) → holdsBelow t i ≡ true → i ≤ n → n ≤ i → true ≡ holdsBelow t n
+below-end t i n e h k = let q : i ≡ n = omega arith in sym (subst (λ (m : ℕ). holdsBelow t m ≡ true) q e)

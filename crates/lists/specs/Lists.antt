@@ -75,14 +75,19 @@ module _ {A : Type 0} where
   listIn none = []
   listIn (some l) = l
 
+-- f at each of n numbers from p on
+abbrev pub upto : {A : Type 0} → (ℕ → A) → (p n : ℕ) → List A
+upto f p n = each (λ q. f q ∷ []) p n
+
+-- the test holds at each number below n
+abbrev pub holdsBelow : (ℕ → Bool) → ℕ → Bool
+holdsBelow t zero = true
+holdsBelow t (suc n) = holdsBelow t n && t n
+
 -- ---- what no public call's contract cites
 -- each number is below n
 abbrev pub Below : ℕ → List ℕ → Type 0
 Below n l = All (λ k. k < n) l
-
--- f at each of n numbers from p on
-abbrev pub upto : {A : Type 0} → (ℕ → A) → (p n : ℕ) → List A
-upto f p n = each (λ q. f q ∷ []) p n
 
 -- a test's result t says whether P holds
 pub record Tells (P : Type 0) (t : Bool) : Type 0 where

@@ -1,28 +1,25 @@
-// The calls on a plan that its own checks and those of its windows let through: over its grown cells, which are the cells as drawn where no layer has a margin, and over a copy that is
-// grown where one has. Check 5 is made here, since the order is that of the grown plan.
+// The calls on a plan that its own checks and those of its windows let through: over its grown cells, which are the cells as drawn where no layer has a
+// margin, and over a copy that is grown where one has. Check 5 is made here, since the order is that of the grown plan.
 use crate::answers::First;
 use crate::answers::first_cursor;
 use crate::answers::page_at;
 use crate::answers::refused_page;
-use crate::answers::run_from;
-use crate::answers::with_ground;
 use cursors::ended_cursor;
 use paging::Page;
-use paging::Run;
 use paging::Ticket;
 use plan::MOST_CELLS;
 use plan::Shape;
-use plan::grow_plan;
-use plan::is_drawn;
+use planner::grow_plan;
+use planner::is_drawn;
 use slots::frame_of;
-use sweep::is_order;
+use sweeper::is_order;
 ghost use mathlib.Core.Path.{_≡_};
 ghost use Prim.Native.Nat.{_≤_};
 ghost use lib.ListN.{length};
 ghost use Rattle.plan.specs.Plan.{sizesOf, Sound};
 ghost use Rattle.plan.specs.Frames.{Framed};
 ghost use Rattle.paging.specs.Cursors.{endedCursor};
-ghost use Rattle.pager.specs.Answers.{firstOf, Hourly, Paired, OverGrown, AsPage, AsRun};
+ghost use Rattle.pager.specs.Answers.{firstOf, Hourly, Paired, OverGrown, AsPage};
 
 // ---- the first cursor
 pub fn refused_first(number: u32) -> First
@@ -158,62 +155,4 @@ pub fn page_on(
         budget,
         table,
     )
-}
-
-// ---- the whole run
-pub fn run_over(
-    shape: Shape,
-    grown: &[i32],
-    timed: bool,
-    hours: &[u32],
-    order: &[u32],
-    table: &mut [u32],
-    work: &mut [i32],
-) -> Run
-    requires { ⌜ (shape .k ≤ length (shape .sizes)) × Framed (sizesOf shape) (now grown) ⌝ }
-    requires { ⌜ Hourly timed shape (now hours) × Paired timed shape (now hours) ⌝ }
-    ensures { λ r. ⌜ OverGrown shape (now (grown .entry)) (λ cells. AsRun timed shape cells (now (hours .entry)) (now (order .entry)) (now (table .entry)) (now (work .entry)) r (now (table .exit)) (now (work .exit))) ⌝ }
-{
-    if !is_order(grown, order) {
-        return Run::Refused(5);
-    }
-    let listing = run_from(frame_of(shape, timed), grown, hours, order, table, work);
-    with_ground(listing, shape, grown, table, work)
-}
-
-pub fn run_grown(
-    shape: Shape,
-    cells: &[i32],
-    timed: bool,
-    hours: &[u32],
-    order: &[u32],
-    table: &mut [u32],
-    work: &mut [i32],
-) -> Run
-    requires { ⌜ Sound shape (now cells) × (Hourly timed shape (now hours) × Paired timed shape (now hours)) ⌝ }
-    ensures { λ r. ⌜ AsRun timed shape (now (cells .entry)) (now (hours .entry)) (now (order .entry)) (now (table .entry)) (now (work .entry)) r (now (table .exit)) (now (work .exit)) ⌝ }
-{
-    let mut run = [0i32; MOST_CELLS];
-    grow_plan(shape, cells, &mut run);
-    let n = cells.len();
-    run_over(shape, &run[..n], timed, hours, order, table, work)
-}
-
-// The run over the cells as drawn, where no layer has a margin, or over a copy.
-pub fn run_on(
-    shape: Shape,
-    cells: &[i32],
-    timed: bool,
-    hours: &[u32],
-    order: &[u32],
-    table: &mut [u32],
-    work: &mut [i32],
-) -> Run
-    requires { ⌜ Sound shape (now cells) × Hourly timed shape (now hours) ⌝ }
-    ensures { λ r. ⌜ AsRun timed shape (now (cells .entry)) (now (hours .entry)) (now (order .entry)) (now (table .entry)) (now (work .entry)) r (now (table .exit)) (now (work .exit)) ⌝ }
-{
-    if is_drawn(shape) {
-        return run_over(shape, cells, timed, hours, order, table, work);
-    }
-    run_grown(shape, cells, timed, hours, order, table, work)
 }

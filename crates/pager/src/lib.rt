@@ -1,9 +1,11 @@
-// The calls on the walk of a plan: the fresh ticket, a page, the whole run, and the last two timed. What they answer is defined in the crate `paging`.
+// The calls that page through the walk of a plan: the fresh ticket, a page, and a timed page. The whole run is in the crate `runner`; what the calls
+// answer is defined in the crate `paging`.
 mod answers;
 mod counters;
 mod grown;
 
 use answers::First;
+pub use answers::capacity_of;
 pub use answers::plain_cause;
 pub use answers::plain_page;
 use answers::refused_page;
@@ -14,19 +16,16 @@ use grown::first_grown;
 use grown::first_over;
 use grown::page_on;
 use grown::refused_first;
-use grown::run_on;
 use paging::Fresh;
 use paging::Page;
-use paging::Run;
 use paging::Ticket;
 use plan::Shape;
-use plan::is_drawn;
-use plan::plan_cause;
-use windows::hours_cause;
+use planner::is_drawn;
+use planner::plan_cause;
+use timekeeper::hours_cause;
 ghost use mathlib.Core.Path.{_≡_};
-ghost use lib.ListN.{length};
 ghost use Rattle.pager.specs.Answers.{firstOf};
-ghost use Rattle.paging.specs.Calls.{freshCall, freshCounter, pageCause, stopNumber, pageCall, pageTable, pageCounter, runCause, runCall, runTable, timedPageCause, timedPageCall, timedPageTable, timedPageCounter, timedRunCause, timedRunCall, timedRunTable, WorkAfter};
+ghost use Rattle.paging.specs.Calls.{freshCall, freshCounter, pageCause, stopNumber, pageCall, pageTable, pageCounter, timedPageCause, timedPageCall, timedPageTable, timedPageCounter};
 
 // The ticket of the first probe of a plan's walk; a run begins, and its counter is 0 (01: the fresh-ticket call; 02: the run record).
 pub fn fresh_ticket(shape: Shape, cells: &[i32], order: &[u32], counter: &mut [u64]) -> Fresh
@@ -99,28 +98,7 @@ pub fn fetch_page(
     )
 }
 
-// All rows of a plan's table into a lent table, if they fit (01: the whole run). Their ground is counted once with the help of a work buffer (02, Q-6).
-pub fn run_all(
-    shape: Shape,
-    cells: &[i32],
-    order: &[u32],
-    table: &mut [u32],
-    work: &mut [i32],
-) -> Run
-    ensures answer { λ r. ⌜ r ≡ runCall shape (now (cells .entry)) (now (order .entry)) (now (table .entry)) (length (now (work .entry))) ⌝ }
-    ensures table { λ _. ⌜ now (table .exit) ≡ runTable shape (now (cells .entry)) (now (order .entry)) (now (table .entry)) (length (now (work .entry))) ⌝ }
-    ensures work { λ _. ⌜ WorkAfter (runCause shape (now (cells .entry)) (now (order .entry)) (now (table .entry)) (length (now (work .entry)))) (now (work .entry)) (now (work .exit)) ⌝ }
-{
-    let cause = plan_cause(shape, cells);
-    if cause != 0 {
-        return Run::Refused(cause);
-    }
-    let none = [0u32; 1];
-    run_on(shape, cells, false, &none, order, table, work)
-}
-
-// ---- timed calls (02, Q-12): `hours` has a window of the week for each rectangle
-// A page of the timed walk of a plan from a ticket on.
+// A page of the timed walk of a plan from a ticket on; `hours` has a window of the week for each rectangle (02, Q-12).
 pub fn timed_page(
     shape: Shape,
     cells: &[i32],
@@ -151,24 +129,4 @@ pub fn timed_page(
         budget,
         table,
     )
-}
-
-// All rows of a plan's timed table into a lent table, if they fit.
-pub fn timed_run(
-    shape: Shape,
-    cells: &[i32],
-    hours: &[u32],
-    order: &[u32],
-    table: &mut [u32],
-    work: &mut [i32],
-) -> Run
-    ensures answer { λ r. ⌜ r ≡ timedRunCall shape (now (cells .entry)) (now (hours .entry)) (now (order .entry)) (now (table .entry)) (length (now (work .entry))) ⌝ }
-    ensures table { λ _. ⌜ now (table .exit) ≡ timedRunTable shape (now (cells .entry)) (now (hours .entry)) (now (order .entry)) (now (table .entry)) (length (now (work .entry))) ⌝ }
-    ensures work { λ _. ⌜ WorkAfter (timedRunCause shape (now (cells .entry)) (now (hours .entry)) (now (order .entry)) (now (table .entry)) (length (now (work .entry)))) (now (work .entry)) (now (work .exit)) ⌝ }
-{
-    let cause = hours_cause(shape, cells, hours);
-    if cause != 0 {
-        return Run::Refused(cause);
-    }
-    run_on(shape, cells, true, hours, order, table, work)
 }

@@ -10,7 +10,7 @@ use lib.IntN.{ℤ}
 use lib.Dec.{leb}
 use lib.ListN.{length}
 use borrow.Author.Tests.{eqb-true, eq-eqb}
-use Rattle.lists.specs.Lists.{Tells, isSome, listIn, sum, same}
+use Rattle.lists.specs.Lists.{Tells, isSome, listIn, same}
 use Rattle.lists.proofs.Tests.{le-tells, tells}
 use Rattle.totals.specs.declared.Total.{Total}
 use Rattle.totals.specs.Totals.{totalOf}
@@ -37,7 +37,7 @@ use Rattle.paging.specs.Overlays.{Overlay, overlayOf}
 use Rattle.paging.specs.Cursors.{endedCursor, resume}
 use Rattle.paging.specs.Pages.{room, paged}
 use Rattle.paging.specs.Calls.{oneCell, current, freshCause, freshCall, freshCounter, stopNumber, pageCauseOn, pageCallOn, runCauseOn, runCallOn, timedCause, runValues}
-use Rattle.paging.specs.Theorems.{Good, Stale, firstCause, TimedCauses, PageCauses, RunCauses, CallCauses, Call, served, Served, Ran, ran, Refuses}
+use Rattle.paging.specs.Theorems.{Good, Stale, firstCause, TimedCauses, PageCauses, RunCauses, CallCauses, Call, Served, Ran, ran, Refuses}
 use Rattle.paging.proofs.Overlays.{of-plan, of-timed}
 use Rattle.paging.proofs.Named.{resumes}
 use Rattle.paging.proofs.Counters.{current-tells, stale-or-not}

@@ -4,7 +4,6 @@ use mathlib.Core.List.{List, [], _∷_}
 use mathlib.Core.Option.{Option, none, some}
 use mathlib.Core.Bool.{true}
 use Prim.Native.Nat.{ℕ, zero, suc}
-use native.Mathlib.Omega.{arith}
 use lib.IntN.{ℤ}
 use Rattle.lists.specs.Lists.{isSome}
 use Rattle.totals.specs.Totals.{totalOf}
@@ -12,7 +11,6 @@ use Rattle.plan.specs.declared.Shape.{Shape}
 use Rattle.plan.specs.Causes.{unless, _orElse_}
 use Rattle.plan.specs.Plan.{Layer, layers}
 use Rattle.plan.proofs.Plan.{unless-zero, or-else-zero}
-use Rattle.paging.specs.declared.Ticket.{Ticket}
 use Rattle.timed.specs.Timed.{Held}
 use Rattle.paging.specs.Overlays.{Overlay, overlayOf}
 use Rattle.paging.specs.Cursors.{resume}

@@ -2,7 +2,7 @@
 -- Sentences in quotes are the demand's; those of the scope paper begin with 01.
 use mathlib.Core.Path.{_≡_}
 use mathlib.Core.List.{List, [], _∷_, _++_, map, List·Memᴰ}
-use mathlib.Core.Bool.{Bool, true, false, _&&_}
+use mathlib.Core.Bool.{true, false, _&&_}
 use mathlib.Core.Logic.{_↔_, _⊎_}
 use mathlib.Core.Option.{Option, none, some}
 use Prim.Native.Nat.{ℕ, zero, suc, _+_, _-_, _*_, _/_, _%_, _≤_, _<_, min}
@@ -11,7 +11,6 @@ use lib.Dec.{eqb, ltb}
 use lib.ListN.{length, getD, take, drop}
 use Rattle.lists.specs.Lists.{All, sum, keep, isSome}
 use Rattle.totals.specs.Totals.{totalOf, valueOf}
-use Rattle.geometry.specs.declared.Rect.{Rect}
 use Rattle.plan.specs.declared.Shape.{Shape}
 use Rattle.plan.specs.Causes.{onCause}
 use Rattle.plan.specs.Plan.{layersOf, sizesOf, grown, layers, planCause, Typed, Sound}
@@ -35,7 +34,7 @@ use Rattle.paging.specs.declared.Page.{Page}
 use Rattle.paging.specs.declared.Run.{Run}
 use Rattle.paging.specs.declared.Run.the-variants as Run
 use Rattle.search.specs.declared.Stop.the-variants.{Ended, Full, Spent, Refused}
-use Rattle.paging.specs.Overlays.{Overlay, overlay, timedOverlay, overlayOf}
+use Rattle.paging.specs.Overlays.{Overlay, overlay, overlayOf}
 use Rattle.paging.specs.Cursors.{cursorOf, endedCursor, dueCursor, resume}
 use Rattle.paging.specs.Pages.{room}
 use Rattle.paging.specs.Calls.{freshCause, freshCall, freshCounter, stopNumber, pageCause, pageCall, pageTable, pageCounter, runCause, runCall, runTable, timedCause, timedPageCause, timedPageCall, timedPageTable, timedPageCounter, timedRunCause, timedRunCall, timedRunTable, RunValues, runValues, crossingRunCause, crossingCall, crossingTable}

@@ -1,5 +1,5 @@
 // Cursors, tickets, pages and whole runs: the types of the calls' answers. What the calls answer is defined in specs/, what demand 3 says of
-// lists of calls is proved in proofs/; the code of the calls is in the crate `pager`.
+// lists of calls is proved in proofs/; the code of the calls is in the crates `pager` and `runner`.
 
 use search::Stop;
 use totals::Total;

@@ -2,28 +2,26 @@
 use mathlib.Core.Path.{_≡_, refl, sym, ap, ap₂, _∙_, subst}
 use mathlib.Core.List.{List, [], _∷_, _++_}
 use mathlib.Core.Bool.{true}
-use mathlib.Core.Logic.{_⊎_, inl, inr}
 use Prim.Native.Nat.{ℕ, zero, suc, _+_, _-_, _*_, _/_, _≤_, _<_, zero-le}
 use native.Mathlib.Omega.{arith}
 use native.Mathlib.Numerals.{add-one}
 use lib.IntN.{ℤ, pos}
 use lib.ListN.{length, getD, take, drop, length-append, length-drop, take-append-drop, drop-of-length-le}
-use lib.Seq.{drop-cons, drop-drop, length-take-le, take-append-seam, drop-append-seam, getD-append-add}
+use lib.Seq.{drop-cons, drop-drop, length-take-le, take-append-seam, drop-append-seam}
 use Rattle.lists.specs.Lists.{All, none-left, _and_, sum}
 use Rattle.lists.specs.Stores.{Put}
-use Rattle.lists.proofs.Lists.{all-take, all-getD}
+use Rattle.lists.proofs.Lists.{all-take}
 use Rattle.lists.proofs.Stores.{Left, left-all, left-put, left-none, left-room, put-start, put-length}
 use Rattle.geometry.specs.declared.Rect.{Rect}
 use Rattle.geometry.specs.Rectangles.{inRange, held, grownBy}
 use Rattle.geometry.proofs.Rectangles.{grown-held, grown-none, range-extent}
 use Rattle.plan.specs.declared.Shape.{Shape}
-use Rattle.plan.specs.Limits.{mostCells}
 use Rattle.plan.specs.Plan.{rectAt, rectCells, count, Layer, layersOf, sizesOf, grownFrom, grownLayers, grown, layers, allFit, Sound}
-use Rattle.plan.specs.Spots.{Spot, spotOf, layerAt, Has, rectOf}
+use Rattle.plan.specs.Spots.{spotOf, rectOf}
 use Rattle.plan.specs.Theorems.{Grows}
 use Rattle.plan.specs.Frames.{Framed}
 use Rattle.plan.specs.Growth.{InReach, Growable, Grown}
-use Rattle.plan.proofs.Plan.{Checked, checked, front-sum, count-is, fit-small, few}
+use Rattle.plan.proofs.Plan.{checked, front-sum, count-is, fit-small, few}
 use Rattle.plan.proofs.Spots.{rect-number, rect-take, rect-drop, size-of}
 
 -- ---- how they lie

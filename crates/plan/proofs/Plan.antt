@@ -1,5 +1,5 @@
 -- Laws of the checks: what each goes by, and that a plan which they let through is sound.
-use mathlib.Core.Path.{_≡_, refl, sym, ap, _∙_, subst}
+use mathlib.Core.Path.{_≡_, refl, sym, ap, _∙_}
 use mathlib.Core.List.{List, [], _∷_}
 use mathlib.Core.Logic.{_⊎_, inl, inr, _↔_}
 use mathlib.Core.Bool.{Bool, true, false, _&&_, _||_}
@@ -9,16 +9,15 @@ use native.Mathlib.Numerals.{add-one}
 use lib.IntN.{ℤ}
 use lib.Dec.{eqb, leb, ltb}
 use lib.ListN.{length, getD, take, drop, drop-of-length-le}
-use lib.Seq.{drop-cons, length-take-le}
+use lib.Seq.{drop-cons}
 use borrow.Author.Tests.{lt-ltb, le-ltb, le-leb, lt-leb, leb-true, eqb-true, eq-eqb, ne-eqb}
 use Rattle.lists.specs.Lists.{All, none-left, _and_, sum, Tells}
-use Rattle.lists.proofs.Lists.{all-take}
-use Rattle.lists.proofs.Tests.{clash, both, and-true, total}
+use Rattle.lists.proofs.Tests.{both, below-at}
 use Rattle.geometry.specs.Rectangles.{inRange}
 use Rattle.plan.specs.Limits.{mostRects}
 use Rattle.plan.specs.declared.Shape.{Shape}
 use Rattle.plan.specs.Causes.{unless, _orElse_}
-use Rattle.plan.specs.Plan.{rectAt, count, sizesOf, grown, fitsAt, allFit, allRanged, planCause, Sound}
+use Rattle.plan.specs.Plan.{rectAt, count, sizesOf, fitsAt, allFit, allRanged, planCause, Sound}
 use native.Mathlib.Nat.{le-refl}
 
 -- ---- two checks
@@ -39,11 +38,6 @@ or-else-second a b n e h = rw e h
 pub unless-zero : (t : Bool) (c : ℕ) → unless t (suc c) ≡ 0 → t ≡ true
 unless-zero true c e = refl
 unless-zero false c e = absurd (omega arith)
-
--- the first of two causes is no more than both are
-pub or-else-most : (a b n : ℕ) → a ≤ n → b ≤ n → (a orElse b) ≤ n
-or-else-most zero b n h k = k
-or-else-most (suc a) b n h k = h
 
 -- a check gives its own cause or none
 pub unless-most : (t : Bool) (n : ℕ) → unless t n ≤ n
@@ -114,35 +108,6 @@ summed-more ns n j s h b =
 
 pub summed-end : (ns : List ℕ) (n j : ℕ) → Summed ns n j → length ns ≤ j → n ≡ sum ns
 summed-end ns n j s h = let e = ap sum (drop-of-length-le ns h) in omega (arith, s .same)
-
--- ---- rectangle by rectangle
-pub ranged-more : (cells : List ℤ) (i : ℕ) → allRanged i cells ≡ true → inRange (rectAt cells i) ≡ true → allRanged (i + 1) cells ≡ true
-ranged-more cells i h e = rw add-one (and-true (allRanged i cells) (inRange (rectAt cells i)) h e)
-
-pub ranged-at : (cells : List ℤ) (n k : ℕ) → allRanged n cells ≡ true → k < n → inRange (rectAt cells k) ≡ true
-ranged-at cells zero k e h = absurd (omega arith)
-ranged-at cells (suc n) k e h = go (total n k) (ranged-at cells n k (b .0))
-  where
-    b : (allRanged n cells ≡ true) × (inRange (rectAt cells n) ≡ true)
-    b = both (allRanged n cells) (inRange (rectAt cells n)) e
-
-    go : (n ≤ k) ⊎ (k < n) → (k < n → inRange (rectAt cells k) ≡ true) → inRange (rectAt cells k) ≡ true
-    go (inl p) i = subst (λ (m : ℕ). inRange (rectAt cells m) ≡ true) (omega arith) (b .1)
-    go (inr p) i = i p
-
-pub ranged-all : (cells : List ℤ) (n : ℕ) → ((k : ℕ) → k < n → inRange (rectAt cells k) ≡ true) → allRanged n cells ≡ true
-ranged-all cells zero f = refl
-ranged-all cells (suc n) f = and-true (allRanged n cells) (inRange (rectAt cells n)) (ranged-all cells n (λ k h. f k (omega arith))) (f n (omega arith))
-
-pub ranged-not : (cells : List ℤ) (n k : ℕ) → k < n → inRange (rectAt cells k) ≡ false → false ≡ allRanged n cells
-ranged-not cells n k h e = go (allRanged n cells) refl
-  where
-    go : (t : Bool) → allRanged n cells ≡ t → false ≡ t
-    go true f = clash (ranged-at cells n k f h) e
-    go false f = refl
-
-pub ranged-end : (cells : List ℤ) (i n : ℕ) → allRanged i cells ≡ true → i ≤ n → n ≤ i → true ≡ allRanged n cells
-ranged-end cells i n e h k = let q : i ≡ n = omega arith in sym (subst (λ (m : ℕ). allRanged m cells ≡ true) q e)
 
 -- ---- the causes
 -- of a shape: the first of 1, 2 and 17
@@ -218,7 +183,7 @@ checked s cells h = go (leb 2 (s .k) && leb (s .k) 6) refl (allFit 512 (s .k) 0 
     go true p true x true v true y false z e = absurd (omega arith)
     go true p true x true v true y true z e =
         let h = both (leb 2 (s .k)) (leb (s .k) 6) p in
-        record { low = leb-true 2 (s .k) (h .0); high = leb-true (s .k) 6 (h .1); fit = x; margins = v; whole = eqb-true (length cells) (4 * sum (s .sizes)) y; ranged = λ k h. ranged-at cells (count cells) k z h }
+        record { low = leb-true 2 (s .k) (h .0); high = leb-true (s .k) 6 (h .1); fit = x; margins = v; whole = eqb-true (length cells) (4 * sum (s .sizes)) y; ranged = λ k h. below-at (λ i. inRange (rectAt cells i)) (count cells) k z h }
 
 -- the sizes of the k layers make up the whole, and each is at most 512
 pub front-sum : (s : Shape) (cells : List ℤ) → Checked s cells → sum (sizesOf s) ≡ sum (s .sizes)

@@ -11,14 +11,14 @@ use lib.ListN.{length, getD}
 use lib.Seq.{length-take-le, getD-append-add, getD-take}
 use borrow.Author.Tests.{le-leb, leb-true, eq-eqb, eqb-true, le-ltb, lt-ltb}
 use Rattle.lists.specs.Lists.{Tells, sum}
-use Rattle.lists.proofs.Tests.{both, and-true, total, tells}
+use Rattle.lists.proofs.Tests.{both, and-true, total, tells, below-at, below-all}
 use Rattle.geometry.specs.Rectangles.{held, inRange}
 use Rattle.geometry.proofs.Rectangles.{ranged, in-range, old-range}
 use Rattle.plan.specs.declared.Shape.{Shape}
 use Rattle.plan.specs.Causes.{unless, _orElse_}
 use Rattle.plan.specs.Plan.{rectAt, count, fitsAt, allFit, allRanged, planCause}
-use Rattle.plan.specs.Theorems.{Layered, Sized, Margined, Filled, AllIn, CausesHold, OldCells, OldIn, OldHolds, Grows, Plans}
-use Rattle.plan.proofs.Plan.{ranged-at, ranged-all, front-sum, checked, plan-known}
+use Rattle.plan.specs.Theorems.{Layered, Sized, Margined, Filled, AllIn, CausesHold, OldCells, OldIn, OldHolds, Plans}
+use Rattle.plan.proofs.Plan.{front-sum, checked, plan-known}
 use Rattle.plan.proofs.Growing.{framed, grows}
 
 -- ---- the cells of a rectangle
@@ -137,7 +137,7 @@ causes-hold s cells = record { none = f .none; one = f .one; two = f .two; seven
         (fit-tells 512 (s .k) (s .sizes))
         (fit-tells 50000 (s .k) (s .margins))
         (tells _ (eqb-true (length cells) (4 * sum (s .sizes))) (eq-eqb (length cells) (4 * sum (s .sizes))))
-        (tells _ (λ e i h. ranged _ (ranged-at cells (count cells) i e h)) (λ h. ranged-all cells (count cells) (λ i k. in-range _ (h i k))))
+        (tells _ (λ e i h. ranged _ (below-at (λ j. inRange (rectAt cells j)) (count cells) i e h)) (λ h. below-all (λ j. inRange (rectAt cells j)) (count cells) (λ i k. in-range _ (h i k))))
 
 -- ---- the old range
 old-at : (cells : List ℤ) → OldCells cells → (i : ℕ) → inRange (rectAt cells i) ≡ held (pos 1000000) (rectAt cells i)

@@ -1,4 +1,5 @@
--- What the table, the walk and the functions below the public calls ask of sizes and cells; the checks of a plan give it.
+-- What the table, the walk and the functions below the public calls ask of sizes and cells; the checks of a plan give it; no public call's contract
+-- cites it.
 use mathlib.Core.Path.{_≡_}
 use mathlib.Core.List.{List}
 use mathlib.Core.Bool.{true}

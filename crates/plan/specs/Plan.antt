@@ -6,7 +6,7 @@ use Prim.Native.Nat.{ℕ, zero, suc, _+_, _*_, _/_}
 use lib.IntN.{ℤ, pos}
 use lib.Dec.{eqb, leb, ltb}
 use lib.ListN.{length, getD, take, drop}
-use Rattle.lists.specs.Lists.{sum}
+use Rattle.lists.specs.Lists.{sum, holdsBelow}
 use Rattle.geometry.specs.declared.Rect.{Rect}
 use Rattle.geometry.specs.Rectangles.{inRange, mostMargin, grownBy}
 use Rattle.plan.specs.declared.Shape.{Shape}
@@ -71,8 +71,7 @@ allFit most k j (n ∷ ns) = fitsAt most k j n && allFit most k (suc j) ns
 
 -- 4 applies to none of the first n rectangles
 abbrev pub allRanged : ℕ → List ℤ → Bool
-allRanged zero cells = true
-allRanged (suc n) cells = allRanged n cells && inRange (rectAt cells n)
+allRanged n cells = holdsBelow (λ i. inRange (rectAt cells i)) n
 
 -- the first of the causes 1 to 4 and 17 that applies to a plan. 02, Q-4: "a margin out of range, or not 0 past k, 17, after 2"; "check 4 and the text take
 -- it ungrown"

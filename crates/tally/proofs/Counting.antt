@@ -3,18 +3,17 @@ use mathlib.Core.Path.{_≡_, refl, sym, ap, _∙_}
 use mathlib.Core.List.{List, [], _∷_}
 use mathlib.Core.Logic.{_⊎_, inl, inr}
 use mathlib.Core.Bool.{Bool, true, false, cond}
-use Prim.Native.Nat.{ℕ, zero, suc, _+_, _-_, _*_, _≤_, _<_}
+use Prim.Native.Nat.{ℕ, zero, suc, _+_, _-_, _≤_, _<_}
 use native.Mathlib.Omega.{arith}
 use lib.IntN.{ℤ}
 use lib.Dec.{eqb}
 use lib.ListN.{length, getD, set, take, drop, replicate, length-set, length-take, getD-replicate}
 use lib.Seq.{getD-set-same, getD-set-other, ext-getD}
 use borrow.Author.Tests.{eq-eqb, ne-eqb, eqb-true}
-use Rattle.lists.specs.Lists.{All, none-left, _and_, keep, each, upto, sum}
+use Rattle.lists.specs.Lists.{All, none-left, _and_, keep, each, sum}
 use Rattle.lists.proofs.Tests.{clash, total}
 use Rattle.lists.proofs.Kept.{length-upto, getD-upto}
 use Rattle.plan.specs.Plan.{Layer, layersOf}
-use Rattle.plan.specs.Frames.{Framed}
 use Rattle.rows.specs.RowCall.{isRow}
 use Rattle.crossings.specs.Crossings.{classIn}
 use Rattle.crossings.specs.ClassCall.{countOf, classCounts}

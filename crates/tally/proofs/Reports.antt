@@ -8,7 +8,7 @@ use lib.ListN.{length}
 use Rattle.lists.proofs.Tests.{clash}
 use Rattle.totals.specs.declared.Total.{Total}
 use Rattle.plan.specs.declared.Shape.{Shape}
-use Rattle.plan.specs.Plan.{layers, sizesOf, Typed, Sound, grown}
+use Rattle.plan.specs.Plan.{layers, sizesOf, Typed, grown}
 use Rattle.join.specs.Table.{tableOf}
 use Rattle.crossings.specs.ClassCall.{crossingCause, classCounts}
 use Rattle.crossings.proofs.Answers.{cause-sound, cause-three}

@@ -2,7 +2,7 @@
 use mathlib.Core.Path.{_≡_, refl, sym, ap, _∙_}
 use mathlib.Core.List.{List}
 use mathlib.Core.Logic.{_↔_}
-use Prim.Native.Nat.{ℕ, zero, suc, _*_, _≤_, _<_}
+use Prim.Native.Nat.{ℕ, zero, suc, _*_, _<_}
 use native.Mathlib.Omega.{arith}
 use lib.IntN.{ℤ}
 use lib.Dec.{eqb, leb}
@@ -17,13 +17,13 @@ use Rattle.plan.proofs.Plan.{or-else-zero, check-others, plan-not, checked}
 use Rattle.sweep.specs.Sweep.{sweepOrder, orderCause}
 use Rattle.join.specs.Table.{tableOf}
 use Rattle.crossings.specs.Crossings.{classIn}
-use Rattle.crossings.specs.ClassCall.{crossingCause, classCall, ClassValues, classValues, countOf, classCounts}
+use Rattle.crossings.specs.ClassCall.{crossingCause, classCall, classValues, countOf, classCounts}
 use Rattle.crossings.specs.declared.ClassAnswer.{ClassAnswer}
 use Rattle.crossings.proofs.Answers.{cause-sound}
 use Rattle.crossings.proofs.Theorems as Class
 use Rattle.paging.specs.Overlays.{overlay}
 use Rattle.paging.specs.Pages.{room}
-use Rattle.paging.specs.Calls.{runCause, runCall, crossingRunCause, crossingCall, crossingTable}
+use Rattle.paging.specs.Calls.{runCause, crossingRunCause, crossingCall, crossingTable}
 use Rattle.paging.proofs.Runs.{crossing-run}
 use Rattle.tally.specs.Theorems.{Counts, CrossingReports, Tallies}
 use Rattle.tally.proofs.Counting.{counts-at, counts-sum}

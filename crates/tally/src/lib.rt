@@ -1,13 +1,13 @@
 // The crossing report (02: pipes against ducts): a whole run, whose rows are then counted by their class.
-use crossings::crossing_cause;
-use crossings::row_class;
-use pager::run_all;
+use classifier::crossing_cause;
+use classifier::row_class;
+use finder::row_at;
 use paging::CrossingReport;
 use paging::Run;
 use plan::MOST_CELLS;
 use plan::Shape;
-use plan::grow_plan;
-use rows::row_at;
+use planner::grow_plan;
+use runner::run_all;
 ghost use mathlib.Core.Path.{_≡_};
 ghost use Prim.Native.Nat.{_≤_};
 ghost use lib.ListN.{length, take};

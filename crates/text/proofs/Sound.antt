@@ -10,12 +10,12 @@ use lib.ListN.{length}
 use borrow.Author.Tests.{eqb-true, eq-eqb, leb-true, le-leb, lt-ltb, le-ltb}
 use Rattle.lists.specs.Lists.{sum, padded}
 use Rattle.lists.proofs.Padding.{padded-long}
-use Rattle.lists.proofs.Tests.{clash, both, and-true}
+use Rattle.lists.proofs.Tests.{clash, both, and-true, below-all}
 use Rattle.geometry.specs.declared.Rect.{Rect}
 use Rattle.geometry.specs.Rectangles.{inRange}
 use Rattle.plan.specs.declared.Shape.{Shape}
 use Rattle.plan.specs.Plan.{rectAt, count, fitsAt, allFit, allRanged, planCause, Sound}
-use Rattle.plan.proofs.Plan.{Checked, ranged-all}
+use Rattle.plan.proofs.Plan.{Checked}
 use Rattle.line.specs.declared.Line.{Line}
 use Rattle.line.specs.declared.Line.the-variants.{Plan, Layer, Rectangle}
 use Rattle.text.specs.Plans.{layerSizes, layerMargins, cellsIn, shapeIn, counted}
@@ -161,4 +161,4 @@ module _ (k : ℕ) (ls : List Line) (layers : length (layerSizes ls) ≡ k) (hig
 
   pub lines-inside : Checked shape (cellsIn ls) → Inside ls
   lines-inside c =
-      record { sizes = sym sizes-fit ∙ c .fit; margins = sym margins-fit ∙ c .margins; rects = sym in-range ∙ ranged-all (cellsIn ls) (length (cellsIn ls) / 4) (c .ranged) }
+      record { sizes = sym sizes-fit ∙ c .fit; margins = sym margins-fit ∙ c .margins; rects = sym in-range ∙ below-all (λ j. inRange (rectAt (cellsIn ls) j)) (length (cellsIn ls) / 4) (c .ranged) }

@@ -1,7 +1,7 @@
 -- Theorem: the timed walk of a plan is the old one narrowed by its windows, and its rows are the timed table, for every k (02, Q-12). Proved in
 -- proofs/Theorems.antt.
 use mathlib.Core.Path.{_≡_}
-use mathlib.Core.List.{List, map, List·Memᴰ}
+use mathlib.Core.List.{List, [], _∷_, map, List·Memᴰ}
 use mathlib.Core.Logic.{_↔_}
 use mathlib.Core.Option.{some}
 use Prim.Native.Nat.{ℕ, _+_, _*_, _^_, _<_, max, min}
@@ -30,11 +30,14 @@ use Rattle.timed.specs.Timed.{timedGuard, timedWalkOf, timedTableOf}
 abbrev pub cellsAt : (hours : List ℕ) → ℕ → Window
 cellsAt hours n = record { from = getD hours (2 * n) 0; to = getD hours (2 * n + 1) 0 }
 
--- a slot of the old walk and of the timed one: "a trial passes only if the windows so far share a minute", the candidate's among them; then these minutes go on
+-- a slot of the old walk and of the timed one, in which v are the minutes that the windows so far share
 pub record SlotNarrowed (old : Slot Rect) (new : Slot (Rect × Window)) (window : ℕ → Window) : Type 0 where
   pub size : new .size ≡ old .size
+  -- what goes on behind a pass: what the old one hands on, and the minutes of v that are in the candidate's window too
   pub pass : (c d : Rect) (v w : Window) (p : ℕ)
       → (new .pass (c, v) p ≡ some (d, w)) ↔ ((old .pass c p ≡ some d) × (w .from ≡ max (v .from) (window p .from)) × (w .to ≡ min (v .to) (window p .to)) × (w .from < w .to))
+  -- so "a trial passes only if the windows so far share a minute", the candidate's among them
+  pub shares : (c d : Rect) (v : Window) (p : ℕ) → ((w : Window) × (new .pass (c, v) p ≡ some (d, w))) ↔ ((old .pass c p ≡ some d) × Share (v ∷ window p ∷ []))
 
 -- the guard with number n: it starts with its rectangle and its window, and each slot has the windows of its own layer
 pub record GuardNarrowed (ns : List ℕ) (hours : List ℕ) (n : ℕ) (old : Guard Rect) (new : Guard (Rect × Window)) : Type 0 where
@@ -44,6 +47,12 @@ pub record GuardNarrowed (ns : List ℕ) (hours : List ℕ) (n : ℕ) (old : Gua
   pub slots : (j : ℕ) → j < length (old .slots)
       → SlotNarrowed (getD (old .slots) j noSlot) (getD (new .slots) j noSlot) (λ p. cellsAt hours (sum (take (slotLayer (spotOf ns n .layer) j) ns) + p))
 
+-- "the rows whose windows also share a minute" and none else, each once, in the order of the table
+pub record IsTimedTable (ns : List ℕ) (cells : List ℤ) (hours : List ℕ) (rows : List (List ℕ)) : Type 0 where
+  pub lists : (row : List ℕ) → List·Memᴰ row rows ↔ (List·Memᴰ row (tableOf ns cells) × Share (windowsAt (layerHours ns hours) row))
+  pub once : Distinct rows
+  pub ordered : Pairwise (Precedes (layersOf ns cells)) rows
+
 pub record TimedIsTable (ns : List ℕ) (cells : List ℤ) (hours : List ℕ) : Type 0 where
   -- 01's words of a walk hold of the timed walk with its guards, and of no other list
   pub is : IsWalkOf (timedGuard ns cells hours) ns cells (timedWalkOf ns cells hours)
@@ -52,10 +61,9 @@ pub record TimedIsTable (ns : List ℕ) (cells : List ℤ) (hours : List ℕ) : 
   pub each : (n : ℕ) → n < count cells → GuardNarrowed ns hours n (guardAt (layersOf ns cells) n (spotOf ns n)) (timedGuard ns cells hours n)
   -- it begins as the old one: a first trial has no windows to pass yet
   pub begins : Alike (walkOf ns cells) (timedWalkOf ns cells hours)
-  -- the timed table lists "the rows whose windows also share a minute", each once, in the order of the table
-  pub lists : (row : List ℕ) → List·Memᴰ row (timedTableOf ns cells hours) ↔ (List·Memᴰ row (tableOf ns cells) × Share (windowsAt (layerHours ns hours) row))
-  pub once : Distinct (timedTableOf ns cells hours)
-  pub ordered : Pairwise (Precedes (layersOf ns cells)) (timedTableOf ns cells hours)
+  -- 02's words of the timed run's rows hold of the timed table, and of no other list
+  pub table : IsTimedTable ns cells hours (timedTableOf ns cells hours)
+  pub only-table : (rows : List (List ℕ)) → IsTimedTable ns cells hours rows → rows ≡ timedTableOf ns cells hours
   -- the rows of the timed walk, as places in layer order, are the timed table, in its order
   pub rows : map (placesOf ns) (rowsOf rowOf (timedWalkOf ns cells hours)) ≡ timedTableOf ns cells hours
   -- the guard of each row is the left guard of its places, its area is theirs, and its minutes are those that their windows share

@@ -1,9 +1,9 @@
 -- The slots of a guard are those of the other layers, lowest first, each with 01's test.
 use mathlib.Core.Path.{_≡_, refl, sym, ap, _∙_, subst}
 use mathlib.Core.List.{List, [], _∷_}
-use mathlib.Core.Bool.{Bool, true, false, cond, _&&_}
+use mathlib.Core.Bool.{Bool, true}
 use mathlib.Core.Logic.{_↔_}
-use mathlib.Core.Option.{none, some}
+use mathlib.Core.Option.{some}
 use Prim.Native.Nat.{ℕ, zero, suc, _≤_, _<_}
 use native.Mathlib.Omega.{arith}
 use lib.IntN.{ℤ}
@@ -13,14 +13,12 @@ use borrow.Author.Tests.{lt-ltb, le-ltb}
 use Rattle.lists.specs.Lists.{without}
 use Rattle.lists.proofs.Kept.{length-without}
 use Rattle.geometry.specs.declared.Rect.{Rect}
-use Rattle.geometry.specs.Rectangles.{common, meets}
 use Rattle.geometry.proofs.Integers.{zarith}
 use Rattle.plan.specs.Plan.{Layer}
 use Rattle.plan.specs.Spots.{Spot, layerAt, Has, rectOf}
 use Rattle.plan.proofs.Spots.{has-layer}
 use Rattle.search.specs.Traversal.{Slot}
 use Rattle.walk.specs.Walk.{slot, slotsFor, guardAt}
-use Rattle.walk.specs.Passes.{slotLayer}
 use Rattle.walk.specs.Theorems.{noSlot, SlotHolds, GuardHolds}
 use Rattle.walk.proofs.Passes.{passed, others-at, slots-number}
 

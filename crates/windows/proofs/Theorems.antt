@@ -11,7 +11,7 @@ use lib.Dec.{ltb, leb, eqb}
 use lib.ListN.{length, getD}
 use borrow.Author.Tests.{ltb-true, lt-ltb, leb-true, le-leb, eqb-true, eq-eqb}
 use Rattle.lists.specs.Lists.{All, none-left, _and_, Tells, sum}
-use Rattle.lists.proofs.Tests.{both as two, and-true, never-true, tells}
+use Rattle.lists.proofs.Tests.{both as two, and-true, never-true, tells, below-at, below-all}
 use Rattle.plan.specs.declared.Shape.{Shape}
 use Rattle.plan.specs.Plan.{sizesOf, layers, planCause, Sound, grown}
 use Rattle.plan.proofs.Plan.{plan-not, check-passed, check-failed, check-others}
@@ -25,7 +25,6 @@ use Rattle.windows.specs.declared.Window.{Window}
 use Rattle.windows.specs.Windows.{windowAt, isWindow, allWindows, areHours, both, within, layerHours, hoursOf, sharesMinute}
 use Rattle.windows.specs.HoursCall.{hoursCause, hoursCall, HoursValues, hoursValues}
 use Rattle.windows.specs.Theorems.{Minute, InAll, Share, MinutesHold, RowWindows, Stated, HoursCauses, windowsOf, HoursHold, Hours}
-use Rattle.windows.proofs.Windows.{windows-at, windows-all}
 use Rattle.windows.proofs.Shared.{open-is, is-open, window-layer, hours-long, windows-long, windows-nth}
 
 -- ---- minutes
@@ -87,8 +86,8 @@ stated : (s : Shape) (hours : List ℕ) → Tells (Stated s hours) (areHours (su
 unfolding areHours windowAt
 stated s hours =
     tells (areHours n hours)
-    (λ e. let b = two (eqb (length hours) (2 * n)) (allWindows n hours) e in (eqb-true (length hours) (2 * n) (b .0), λ i h. window-is (windowAt hours i) .0 (windows-at hours n i (b .1) h)))
-    (λ h. and-true (eqb (length hours) (2 * n)) (allWindows n hours) (eq-eqb (length hours) (2 * n) (h .0)) (windows-all hours n (λ i k. window-is (windowAt hours i) .1 (h .1 i k))))
+    (λ e. let b = two (eqb (length hours) (2 * n)) (allWindows n hours) e in (eqb-true (length hours) (2 * n) (b .0), λ i h. window-is (windowAt hours i) .0 (below-at (λ j. isWindow (windowAt hours j)) n i (b .1) h)))
+    (λ h. and-true (eqb (length hours) (2 * n)) (allWindows n hours) (eq-eqb (length hours) (2 * n) (h .0)) (below-all (λ j. isWindow (windowAt hours j)) n (λ i k. window-is (windowAt hours i) .1 (h .1 i k))))
   where
     n : ℕ
     n = sum (s .sizes)

@@ -8,7 +8,6 @@ use Rattle.plan.specs.declared.Shape.{Shape}
 use Rattle.plan.specs.Causes.{unless, _orElse_, onCause}
 use Rattle.plan.specs.Plan.{sizesOf, layers, planCause}
 use Rattle.rows.specs.RowCall.{isRow}
-use Rattle.windows.specs.declared.Window.{Window}
 use Rattle.windows.specs.declared.HoursAnswer.{HoursAnswer}
 use Rattle.windows.specs.declared.HoursAnswer.the-variants.{Refused, NoRow, Shared}
 use Rattle.windows.specs.Windows.{areHours, hoursOf, sharesMinute}

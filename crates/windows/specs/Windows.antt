@@ -1,9 +1,10 @@
 -- Windows of the week (02, Q-12): when a rectangle is there. `hours` are the lent cells of all windows of a plan.
 use mathlib.Core.List.{List, [], _∷_}
-use mathlib.Core.Bool.{Bool, true, _&&_}
-use Prim.Native.Nat.{ℕ, zero, suc, _+_, _*_, max, min}
+use mathlib.Core.Bool.{Bool, _&&_}
+use Prim.Native.Nat.{ℕ, _+_, _*_, max, min}
 use lib.Dec.{eqb, leb, ltb}
 use lib.ListN.{length, getD, drop}
+use Rattle.lists.specs.Lists.{holdsBelow}
 use Rattle.windows.specs.declared.Window.{Window}
 
 -- the minutes of a week. 02: "in minutes, from 0 to 10,080"
@@ -20,8 +21,7 @@ isWindow w = ltb (w .from) (w .to) && leb (w .to) week
 
 -- the first n are such windows
 abbrev pub allWindows : ℕ → List ℕ → Bool
-allWindows zero hours = true
-allWindows (suc n) hours = allWindows n hours && isWindow (windowAt hours n)
+allWindows n hours = holdsBelow (λ i. isWindow (windowAt hours i)) n
 
 -- 02: "the buffer not 2n cells or a window not as stated, 24": 24 does not apply to the windows of n rectangles
 unfoldable pub areHours : ℕ → List ℕ → Bool

@@ -1,7 +1,7 @@
 -- `pager::first_of`: a refusal by the checks of the plan, or the cursor over its cells as drawn or grown.
 use borrow.Author.Needs.{needs}
 use mathlib.Core.Path.{sym, _∙_}
-use Rattle.plan.specs.Plan.{Typed, Sound}
+use Rattle.plan.specs.Plan.{Sound}
 use Rattle.plan.proofs.Growing.{drawn-framed, drawn-grown}
 use Rattle.sweep.proofs.Orders.{checked-plan}
 use Rattle.pager.proofs.Calls.{first-refused}

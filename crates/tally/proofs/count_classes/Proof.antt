@@ -1,6 +1,4 @@
 -- `tally::count_classes`. The invariant: the counts so far and those of the rows that are left are those of all. The measure is how many rows are left.
-use borrow.Author.Needs.{needs}
-use mathlib.Core.Path.{_≡_}
 use Prim.Native.Nat.{_+_, _-_, _≤_, _<_}
 use native.Mathlib.Omega.{arith}
 use lib.ListN.{length}

@@ -1,0 +1,24 @@
+-- `finder::row_named`: the ground of the row, or that there is none.
+use borrow.Author.Needs.{needs}
+use mathlib.Core.Path.{sym, _∙_}
+use Rattle.rows.proofs.Answers.{named-none, named-some}
+use Rattle.finder.proofs.row_named.Statement.{statement}
+use Rattle.finder.proofs.row_named.Tie as tie
+
+row-ground-requires : tie.Need-row-ground-requires
+row-ground-requires c κs = search needs
+
+enum-told : tie.Need-enum-told
+enum-told c = search needs
+
+enum-known-g : tie.Need-enum-known-g
+enum-known-g c = search needs
+
+returns : tie.Need-returns
+returns c = named-none _ _ (sym (c .enum-told .given .1) ∙ c .before .before .row-ground .ensures)
+
+returns-2 : tie.Need-returns-2
+returns-2 c = named-some _ _ _ (sym (c .before .g .given .1) ∙ c .before .before .before .row-ground .ensures)
+
+pub row-named-spec : {M : Type 1} → statement M
+row-named-spec = tie.close (tie.spec row-ground-requires enum-told enum-known-g returns returns-2)
