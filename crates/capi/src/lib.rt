@@ -45,10 +45,11 @@ use seeker::nearest;
 use surveyor::cover_records;
 use sweeper::make_order;
 use sweeper::order_cause;
-use tally::crossing_report;
+use tallier::crossing_report;
 use timekeeper::row_hours;
 use writer::write;
 ghost use mathlib.Core.Path.{_≡_};
+ghost use mathlib.Core.Option.{none, some};
 ghost use lib.ListN.{length};
 ghost use Rattle.plan.specs.Plan.{rectAt, planCause};
 ghost use Rattle.nearest.specs.Nearest.{nearestCall, nearCells};
@@ -57,15 +58,16 @@ ghost use Rattle.rows.specs.RowCall.{rowCall, rowValues, commonCall, commonValu
 ghost use Rattle.pairs.specs.PairCall.{pairCall, pairValues};
 ghost use Rattle.crossings.specs.ClassCall.{classCall, classValues};
 ghost use Rattle.windows.specs.HoursCall.{hoursCall, hoursValues};
-ghost use Rattle.paging.specs.Calls.{freshCall, freshCounter, pageCause, pageCall, pageTable, pageCounter, runCause, runCall, runTable, timedPageCause, timedPageCall, timedPageTable, timedPageCounter, timedRunCause, timedRunCall, timedRunTable, WorkAfter, runValues, crossingRunCause, crossingCall, crossingTable};
-ghost use Rattle.rounds.specs.Rounds.{request, roundCause, roundCall, roundCounters, roundTable};
+ghost use Rattle.paging.specs.Calls.{freshCall, freshCounter, pageCause, pageCall, pageTable, pageCounter, runCause, runCall, runTable, WorkAfter, runValues};
+ghost use Rattle.tally.specs.CrossingCall.{crossingRunCause, crossingCall, crossingTable};
+ghost use Rattle.rounds.specs.Rounds.{Request, roundCause, roundCall, roundCounters, roundTable};
 ghost use Rattle.roundcells.specs.RoundCells.{ticketsIn, roundCells, ticketsAfter};
 ghost use Rattle.survey.specs.CoverCall.{coverCause, coverAnswer, coverValues, coverAfter};
 ghost use Rattle.text.specs.Reader.{readCause, readAnswer, cellsAfter};
-ghost use Rattle.text.specs.Writer.{writeCause, writeLength, bufferAfter};
+ghost use Rattle.text.specs.Writer.{writeCause, writeAnswer, lengthOf, bufferAfter};
 ghost use Rattle.cells.specs.Cells.{shapeOf, ticketCells, ticketIn, pageCells, ticketAfter, runCells, rowCells, commonCells, acrossIn, upwardIn, pairCells, hoursCells};
 
-// The first of the causes 1 to 4 and 17 that applies to a plan.
+// The first of the causes 1 2 17 3 4 that applies to a plan.
 #[no_mangle]
 pub extern "C" fn overlay_plan_cause(
     k: u32,
@@ -96,8 +98,8 @@ pub extern "C" fn overlay_make_order(
     cells: &[i32],
     order: &mut [u32],
 ) -> u32
-    ensures number { λ r. ⌜ r ≡ makeCause (shapeOf k (now (sizes .entry)) (now (margins .entry))) (now (cells .entry)) (now (order .entry)) ⌝ }
-    ensures buffer { λ _. ⌜ now (order .exit) ≡ orderAfter (shapeOf k (now (sizes .entry)) (now (margins .entry))) (now (cells .entry)) (now (order .entry)) ⌝ }
+    ensures { λ r. let s = shapeOf k (now (sizes .entry)) (now (margins .entry)) in let given = now (order .entry) in
+        ⌜ (r ≡ makeCause s (now (cells .entry)) given) × (now (order .exit) ≡ orderAfter s (now (cells .entry)) given) ⌝ }
 {
     let six = *sizes;
     let wide = *margins;
@@ -112,7 +114,7 @@ pub extern "C" fn overlay_make_order(
     ))
 }
 
-// The first of the causes 1 to 5 and 17 that applies to a plan and an order.
+// The first of the causes 1 2 17 3 4 5 that applies to a plan and an order.
 #[no_mangle]
 pub extern "C" fn overlay_order_cause(
     k: u32,
@@ -146,8 +148,8 @@ pub extern "C" fn overlay_row(
     places: &[u32],
     answer: &mut [u64; 2],
 ) -> u32
-    ensures number { λ r. ⌜ r ≡ rowValues (rowCall (shapeOf k (now (sizes .entry)) (now (margins .entry))) (now (cells .entry)) (now (places .entry))) .number ⌝ }
-    ensures answer { λ _. ⌜ now (answer .exit) ≡ rowCells (rowValues (rowCall (shapeOf k (now (sizes .entry)) (now (margins .entry))) (now (cells .entry)) (now (places .entry)))) ⌝ }
+    ensures { λ r. let v = rowValues (rowCall (shapeOf k (now (sizes .entry)) (now (margins .entry))) (now (cells .entry)) (now (places .entry))) in
+        ⌜ (r ≡ v .number) × (now (answer .exit) ≡ rowCells v) ⌝ }
 {
     let six = *sizes;
     let wide = *margins;
@@ -175,8 +177,8 @@ pub extern "C" fn overlay_row_common(
     places: &[u32],
     answer: &mut [i32; 5],
 ) -> u32
-    ensures number { λ r. ⌜ r ≡ commonValues (commonCall (shapeOf k (now (sizes .entry)) (now (margins .entry))) (now (cells .entry)) (now (places .entry))) .number ⌝ }
-    ensures answer { λ _. ⌜ now (answer .exit) ≡ commonCells (commonValues (commonCall (shapeOf k (now (sizes .entry)) (now (margins .entry))) (now (cells .entry)) (now (places .entry)))) ⌝ }
+    ensures { λ r. let v = commonValues (commonCall (shapeOf k (now (sizes .entry)) (now (margins .entry))) (now (cells .entry)) (now (places .entry))) in
+        ⌜ (r ≡ v .number) × (now (answer .exit) ≡ commonCells v) ⌝ }
 {
     let six = *sizes;
     let wide = *margins;
@@ -203,8 +205,8 @@ pub extern "C" fn overlay_nearest(
     around: &[i32; 4],
     answer: &mut [u64; 18],
 ) -> u32
-    ensures number { λ r. ⌜ r ≡ nearestCall (shapeOf k (now (sizes .entry)) (now (margins .entry))) (now (cells .entry)) (rectAt (now (around .entry)) 0) .number ⌝ }
-    ensures answer { λ _. ⌜ now (answer .exit) ≡ nearCells (nearestCall (shapeOf k (now (sizes .entry)) (now (margins .entry))) (now (cells .entry)) (rectAt (now (around .entry)) 0)) ⌝ }
+    ensures { λ r. let v = nearestCall (shapeOf k (now (sizes .entry)) (now (margins .entry))) (now (cells .entry)) (rectAt (now (around .entry)) 0) in
+        ⌜ (r ≡ v .number) × (now (answer .exit) ≡ nearCells v) ⌝ }
 {
     let six = *sizes;
     let wide = *margins;
@@ -232,8 +234,8 @@ pub extern "C" fn overlay_apart_pair(
     places: &[u32],
     answer: &mut [u64; 2],
 ) -> u32
-    ensures number { λ r. ⌜ r ≡ pairValues (pairCall (shapeOf k (now (sizes .entry)) (now (margins .entry))) (now (cells .entry)) (now (places .entry))) .number ⌝ }
-    ensures answer { λ _. ⌜ now (answer .exit) ≡ pairCells (pairValues (pairCall (shapeOf k (now (sizes .entry)) (now (margins .entry))) (now (cells .entry)) (now (places .entry)))) ⌝ }
+    ensures { λ r. let v = pairValues (pairCall (shapeOf k (now (sizes .entry)) (now (margins .entry))) (now (cells .entry)) (now (places .entry))) in
+        ⌜ (r ≡ v .number) × (now (answer .exit) ≡ pairCells v) ⌝ }
 {
     let six = *sizes;
     let wide = *margins;
@@ -262,8 +264,9 @@ pub extern "C" fn overlay_row_hours(
     places: &[u32],
     answer: &mut [u32; 2],
 ) -> u32
-    ensures number { λ r. ⌜ r ≡ hoursValues (hoursCall (shapeOf k (now (sizes .entry)) (now (margins .entry))) (now (cells .entry)) (now (hours .entry)) (now (places .entry))) .number ⌝ }
-    ensures answer { λ _. ⌜ now (answer .exit) ≡ hoursCells (hoursValues (hoursCall (shapeOf k (now (sizes .entry)) (now (margins .entry))) (now (cells .entry)) (now (hours .entry)) (now (places .entry)))) ⌝ }
+    ensures { λ r. let s = shapeOf k (now (sizes .entry)) (now (margins .entry)) in
+        let v = hoursValues (hoursCall s (now (cells .entry)) (now (hours .entry)) (now (places .entry))) in
+        ⌜ (r ≡ v .number) × (now (answer .exit) ≡ hoursCells v) ⌝ }
 {
     let six = *sizes;
     let wide = *margins;
@@ -292,9 +295,10 @@ pub extern "C" fn overlay_fresh_ticket(
     ticket: &mut [u32; 12],
     counter: &mut [u64],
 ) -> u32
-    ensures number { λ r. ⌜ r ≡ freshCall (shapeOf k (now (sizes .entry)) (now (margins .entry))) (now (cells .entry)) (now (order .entry)) (now (counter .entry)) .number ⌝ }
-    ensures ticket { λ _. ⌜ now (ticket .exit) ≡ ticketCells (freshCall (shapeOf k (now (sizes .entry)) (now (margins .entry))) (now (cells .entry)) (now (order .entry)) (now (counter .entry)) .ticket) ⌝ }
-    ensures counter { λ _. ⌜ now (counter .exit) ≡ freshCounter (shapeOf k (now (sizes .entry)) (now (margins .entry))) (now (cells .entry)) (now (order .entry)) (now (counter .entry)) ⌝ }
+    ensures { λ r. let s = shapeOf k (now (sizes .entry)) (now (margins .entry)) in let kept = now (counter .entry) in
+        let fresh = freshCall s (now (cells .entry)) (now (order .entry)) kept in
+        ⌜ (r ≡ fresh .number) × (now (ticket .exit) ≡ ticketCells (fresh .ticket))
+        × (now (counter .exit) ≡ freshCounter s (now (cells .entry)) (now (order .entry)) kept) ⌝ }
 {
     let six = *sizes;
     let wide = *margins;
@@ -328,11 +332,12 @@ pub extern "C" fn overlay_fetch_page(
     table: &mut [u32],
     answer: &mut [u64; 5],
 ) -> u32
-    ensures number { λ r. ⌜ r ≡ pageCause (shapeOf k (now (sizes .entry)) (now (margins .entry))) (now (cells .entry)) (now (order .entry)) (ticketIn (now (ticket .entry))) (now (counter .entry)) ⌝ }
-    ensures answer { λ _. ⌜ now (answer .exit) ≡ pageCells (pageCall (shapeOf k (now (sizes .entry)) (now (margins .entry))) (now (cells .entry)) (now (order .entry)) (ticketIn (now (ticket .entry))) (now (counter .entry)) budget (now (table .entry))) ⌝ }
-    ensures ticket { λ _. ⌜ now (ticket .exit) ≡ ticketAfter (now (ticket .entry)) (pageCall (shapeOf k (now (sizes .entry)) (now (margins .entry))) (now (cells .entry)) (now (order .entry)) (ticketIn (now (ticket .entry))) (now (counter .entry)) budget (now (table .entry))) ⌝ }
-    ensures counter { λ _. ⌜ now (counter .exit) ≡ pageCounter (shapeOf k (now (sizes .entry)) (now (margins .entry))) (now (cells .entry)) (now (order .entry)) (ticketIn (now (ticket .entry))) (now (counter .entry)) budget (now (table .entry)) ⌝ }
-    ensures table { λ _. ⌜ now (table .exit) ≡ pageTable (shapeOf k (now (sizes .entry)) (now (margins .entry))) (now (cells .entry)) (now (order .entry)) (ticketIn (now (ticket .entry))) (now (counter .entry)) budget (now (table .entry)) ⌝ }
+    ensures { λ r. let s = shapeOf k (now (sizes .entry)) (now (margins .entry)) in let rects = now (cells .entry) in let swept = now (order .entry) in
+        let given = now (ticket .entry) in let from = ticketIn given in let kept = now (counter .entry) in let lent = now (table .entry) in
+        let page = pageCall none s rects swept from kept budget lent in
+        ⌜ (r ≡ pageCause none s rects swept from kept) × (now (answer .exit) ≡ pageCells page) × (now (ticket .exit) ≡ ticketAfter given page)
+        × (now (counter .exit) ≡ pageCounter none s rects swept from kept budget lent)
+        × (now (table .exit) ≡ pageTable none s rects swept from kept budget lent) ⌝ }
 {
     let six = *sizes;
     let wide = *margins;
@@ -356,8 +361,8 @@ pub extern "C" fn overlay_fetch_page(
     stop_number(stop)
 }
 
-// A page of the timed walk from a ticket on, with a window of the week for each rectangle, two cells, in `hours`; the ticket's cells are left with what is due next, and the counter, the run record, with its count. The answer's cells:
-// why it stopped, rows, probes, metres and rest of the area sum.
+// A page of the timed walk from a ticket on, with a window of the week for each rectangle, two cells, in `hours`; the ticket's cells are left with what is due
+// next, and the counter, the run record, with its count. The answer's cells: why it stopped, rows, probes, metres and rest of the area sum.
 #[no_mangle]
 pub extern "C" fn overlay_timed_page(
     k: u32,
@@ -372,11 +377,12 @@ pub extern "C" fn overlay_timed_page(
     table: &mut [u32],
     answer: &mut [u64; 5],
 ) -> u32
-    ensures number { λ r. ⌜ r ≡ timedPageCause (shapeOf k (now (sizes .entry)) (now (margins .entry))) (now (cells .entry)) (now (hours .entry)) (now (order .entry)) (ticketIn (now (ticket .entry))) (now (counter .entry)) ⌝ }
-    ensures answer { λ _. ⌜ now (answer .exit) ≡ pageCells (timedPageCall (shapeOf k (now (sizes .entry)) (now (margins .entry))) (now (cells .entry)) (now (hours .entry)) (now (order .entry)) (ticketIn (now (ticket .entry))) (now (counter .entry)) budget (now (table .entry))) ⌝ }
-    ensures ticket { λ _. ⌜ now (ticket .exit) ≡ ticketAfter (now (ticket .entry)) (timedPageCall (shapeOf k (now (sizes .entry)) (now (margins .entry))) (now (cells .entry)) (now (hours .entry)) (now (order .entry)) (ticketIn (now (ticket .entry))) (now (counter .entry)) budget (now (table .entry))) ⌝ }
-    ensures counter { λ _. ⌜ now (counter .exit) ≡ timedPageCounter (shapeOf k (now (sizes .entry)) (now (margins .entry))) (now (cells .entry)) (now (hours .entry)) (now (order .entry)) (ticketIn (now (ticket .entry))) (now (counter .entry)) budget (now (table .entry)) ⌝ }
-    ensures table { λ _. ⌜ now (table .exit) ≡ timedPageTable (shapeOf k (now (sizes .entry)) (now (margins .entry))) (now (cells .entry)) (now (hours .entry)) (now (order .entry)) (ticketIn (now (ticket .entry))) (now (counter .entry)) budget (now (table .entry)) ⌝ }
+    ensures { λ r. let s = shapeOf k (now (sizes .entry)) (now (margins .entry)) in let rects = now (cells .entry) in let swept = now (order .entry) in
+        let given = now (ticket .entry) in let from = ticketIn given in let kept = now (counter .entry) in let lent = now (table .entry) in
+        let windows = some (now (hours .entry)) in let page = pageCall windows s rects swept from kept budget lent in
+        ⌜ (r ≡ pageCause windows s rects swept from kept) × (now (answer .exit) ≡ pageCells page) × (now (ticket .exit) ≡ ticketAfter given page)
+        × (now (counter .exit) ≡ pageCounter windows s rects swept from kept budget lent)
+        × (now (table .exit) ≡ pageTable windows s rects swept from kept budget lent) ⌝ }
 {
     let six = *sizes;
     let wide = *margins;
@@ -420,12 +426,22 @@ pub extern "C" fn overlay_round(
     next: &mut u32,
     answer: &mut [u64; 80],
 ) -> u32
-    ensures number { λ r. ⌜ r ≡ roundCause (request (shapeOf k (now (sizes .entry)) (now (margins .entry))) (now (cells .entry)) (now (order .entry)) m first budget (ticketsIn (now (tickets .entry))) (now (counters .entry)) (now (table .entry))) ⌝ }
-    ensures next { λ _. ⌜ now (next .exit) ≡ roundCall (request (shapeOf k (now (sizes .entry)) (now (margins .entry))) (now (cells .entry)) (now (order .entry)) m first budget (ticketsIn (now (tickets .entry))) (now (counters .entry)) (now (table .entry))) .next ⌝ }
-    ensures answer { λ _. ⌜ now (answer .exit) ≡ roundCells (roundCall (request (shapeOf k (now (sizes .entry)) (now (margins .entry))) (now (cells .entry)) (now (order .entry)) m first budget (ticketsIn (now (tickets .entry))) (now (counters .entry)) (now (table .entry))) .pages) ⌝ }
-    ensures tickets { λ _. ⌜ now (tickets .exit) ≡ ticketsAfter (now (tickets .entry)) m (roundCause (request (shapeOf k (now (sizes .entry)) (now (margins .entry))) (now (cells .entry)) (now (order .entry)) m first budget (ticketsIn (now (tickets .entry))) (now (counters .entry)) (now (table .entry)))) (roundCall (request (shapeOf k (now (sizes .entry)) (now (margins .entry))) (now (cells .entry)) (now (order .entry)) m first budget (ticketsIn (now (tickets .entry))) (now (counters .entry)) (now (table .entry))) .pages) ⌝ }
-    ensures counters { λ _. ⌜ now (counters .exit) ≡ roundCounters (request (shapeOf k (now (sizes .entry)) (now (margins .entry))) (now (cells .entry)) (now (order .entry)) m first budget (ticketsIn (now (tickets .entry))) (now (counters .entry)) (now (table .entry))) ⌝ }
-    ensures table { λ _. ⌜ now (table .exit) ≡ roundTable (request (shapeOf k (now (sizes .entry)) (now (margins .entry))) (now (cells .entry)) (now (order .entry)) m first budget (ticketsIn (now (tickets .entry))) (now (counters .entry)) (now (table .entry))) ⌝ }
+    ensures { λ r. let given = now (tickets .entry) in
+        let asked : Request = record {
+          shape = shapeOf k (now (sizes .entry)) (now (margins .entry));
+          cells = now (cells .entry);
+          order = now (order .entry);
+          clients = m;
+          first = first;
+          budget = budget;
+          tickets = ticketsIn given;
+          counters = now (counters .entry);
+          table = now (table .entry);
+        } in
+        let round = roundCall asked in
+        ⌜ (r ≡ roundCause asked) × (now (next .exit) ≡ round .next) × (now (answer .exit) ≡ roundCells (round .pages))
+        × (now (tickets .exit) ≡ ticketsAfter given m (roundCause asked) (round .pages))
+        × (now (counters .exit) ≡ roundCounters asked) × (now (table .exit) ≡ roundTable asked) ⌝ }
 {
     let six = *sizes;
     let wide = *margins;
@@ -463,10 +479,11 @@ pub extern "C" fn overlay_run_all(
     work: &mut [i32],
     answer: &mut [u64; 6],
 ) -> u32
-    ensures number { λ r. ⌜ r ≡ runValues (runCall (shapeOf k (now (sizes .entry)) (now (margins .entry))) (now (cells .entry)) (now (order .entry)) (now (table .entry)) (length (now (work .entry)))) .number ⌝ }
-    ensures answer { λ _. ⌜ now (answer .exit) ≡ runCells (runValues (runCall (shapeOf k (now (sizes .entry)) (now (margins .entry))) (now (cells .entry)) (now (order .entry)) (now (table .entry)) (length (now (work .entry))))) ⌝ }
-    ensures table { λ _. ⌜ now (table .exit) ≡ runTable (shapeOf k (now (sizes .entry)) (now (margins .entry))) (now (cells .entry)) (now (order .entry)) (now (table .entry)) (length (now (work .entry))) ⌝ }
-    ensures work { λ _. ⌜ WorkAfter (runCause (shapeOf k (now (sizes .entry)) (now (margins .entry))) (now (cells .entry)) (now (order .entry)) (now (table .entry)) (length (now (work .entry)))) (now (work .entry)) (now (work .exit)) ⌝ }
+    ensures { λ r. let s = shapeOf k (now (sizes .entry)) (now (margins .entry)) in let rects = now (cells .entry) in let swept = now (order .entry) in
+        let lent = now (table .entry) in let room = length (now (work .entry)) in
+        let v = runValues (runCall none s rects swept lent room) in
+        ⌜ (r ≡ v .number) × (now (answer .exit) ≡ runCells v) × (now (table .exit) ≡ runTable none s rects swept lent room)
+        × WorkAfter (runCause none s rects swept lent room) (now (work .entry)) (now (work .exit)) ⌝ }
 {
     let six = *sizes;
     let wide = *margins;
@@ -498,10 +515,11 @@ pub extern "C" fn overlay_timed_run(
     work: &mut [i32],
     answer: &mut [u64; 6],
 ) -> u32
-    ensures number { λ r. ⌜ r ≡ runValues (timedRunCall (shapeOf k (now (sizes .entry)) (now (margins .entry))) (now (cells .entry)) (now (hours .entry)) (now (order .entry)) (now (table .entry)) (length (now (work .entry)))) .number ⌝ }
-    ensures answer { λ _. ⌜ now (answer .exit) ≡ runCells (runValues (timedRunCall (shapeOf k (now (sizes .entry)) (now (margins .entry))) (now (cells .entry)) (now (hours .entry)) (now (order .entry)) (now (table .entry)) (length (now (work .entry))))) ⌝ }
-    ensures table { λ _. ⌜ now (table .exit) ≡ timedRunTable (shapeOf k (now (sizes .entry)) (now (margins .entry))) (now (cells .entry)) (now (hours .entry)) (now (order .entry)) (now (table .entry)) (length (now (work .entry))) ⌝ }
-    ensures work { λ _. ⌜ WorkAfter (timedRunCause (shapeOf k (now (sizes .entry)) (now (margins .entry))) (now (cells .entry)) (now (hours .entry)) (now (order .entry)) (now (table .entry)) (length (now (work .entry)))) (now (work .entry)) (now (work .exit)) ⌝ }
+    ensures { λ r. let s = shapeOf k (now (sizes .entry)) (now (margins .entry)) in let rects = now (cells .entry) in let swept = now (order .entry) in
+        let lent = now (table .entry) in let room = length (now (work .entry)) in
+        let windows = some (now (hours .entry)) in let v = runValues (runCall windows s rects swept lent room) in
+        ⌜ (r ≡ v .number) × (now (answer .exit) ≡ runCells v) × (now (table .exit) ≡ runTable windows s rects swept lent room)
+        × WorkAfter (runCause windows s rects swept lent room) (now (work .entry)) (now (work .exit)) ⌝ }
 {
     let six = *sizes;
     let wide = *margins;
@@ -532,8 +550,8 @@ pub extern "C" fn overlay_row_class(
     places: &[u32],
     told: &mut u32,
 ) -> u32
-    ensures number { λ r. ⌜ r ≡ classValues (classCall (shapeOf k (now (sizes .entry)) (now (margins .entry))) (now (cells .entry)) (now (places .entry))) .number ⌝ }
-    ensures told { λ _. ⌜ now (told .exit) ≡ classValues (classCall (shapeOf k (now (sizes .entry)) (now (margins .entry))) (now (cells .entry)) (now (places .entry))) .class ⌝ }
+    ensures { λ r. let v = classValues (classCall (shapeOf k (now (sizes .entry)) (now (margins .entry))) (now (cells .entry)) (now (places .entry))) in
+        ⌜ (r ≡ v .number) × (now (told .exit) ≡ v .class) ⌝ }
 {
     let six = *sizes;
     let wide = *margins;
@@ -563,11 +581,12 @@ pub extern "C" fn overlay_crossing_report(
     answer: &mut [u64; 6],
     counts: &mut [u32; 17],
 ) -> u32
-    ensures number { λ r. ⌜ r ≡ runValues (crossingCall (shapeOf k (now (sizes .entry)) (now (margins .entry))) (now (cells .entry)) (now (order .entry)) (now (table .entry)) (length (now (work .entry))) .run) .number ⌝ }
-    ensures answer { λ _. ⌜ now (answer .exit) ≡ runCells (runValues (crossingCall (shapeOf k (now (sizes .entry)) (now (margins .entry))) (now (cells .entry)) (now (order .entry)) (now (table .entry)) (length (now (work .entry))) .run)) ⌝ }
-    ensures counts { λ _. ⌜ now (counts .exit) ≡ crossingCall (shapeOf k (now (sizes .entry)) (now (margins .entry))) (now (cells .entry)) (now (order .entry)) (now (table .entry)) (length (now (work .entry))) .counts ⌝ }
-    ensures table { λ _. ⌜ now (table .exit) ≡ crossingTable (shapeOf k (now (sizes .entry)) (now (margins .entry))) (now (cells .entry)) (now (order .entry)) (now (table .entry)) (length (now (work .entry))) ⌝ }
-    ensures work { λ _. ⌜ WorkAfter (crossingRunCause (shapeOf k (now (sizes .entry)) (now (margins .entry))) (now (cells .entry)) (now (order .entry)) (now (table .entry)) (length (now (work .entry)))) (now (work .entry)) (now (work .exit)) ⌝ }
+    ensures { λ r. let s = shapeOf k (now (sizes .entry)) (now (margins .entry)) in let rects = now (cells .entry) in let swept = now (order .entry) in
+        let lent = now (table .entry) in let room = length (now (work .entry)) in
+        let report = crossingCall s rects swept lent room in let v = runValues (report .run) in
+        ⌜ (r ≡ v .number) × (now (answer .exit) ≡ runCells v) × (now (counts .exit) ≡ report .counts)
+        × (now (table .exit) ≡ crossingTable s rects swept lent room)
+        × WorkAfter (crossingRunCause s rects swept lent room) (now (work .entry)) (now (work .exit)) ⌝ }
 {
     let six = *sizes;
     let wide = *margins;
@@ -598,11 +617,9 @@ pub extern "C" fn overlay_read_text(
     sizes: &mut [u32; 6],
     margins: &mut [u32; 6],
 ) -> u32
-    ensures number { λ r. ⌜ r ≡ readCause (length (now (cells .entry))) (now (text .entry)) ⌝ }
-    ensures k { λ _. ⌜ now (k .exit) ≡ readAnswer (length (now (cells .entry))) (now (text .entry)) .shape .k ⌝ }
-    ensures sizes { λ _. ⌜ now (sizes .exit) ≡ readAnswer (length (now (cells .entry))) (now (text .entry)) .shape .sizes ⌝ }
-    ensures margins { λ _. ⌜ now (margins .exit) ≡ readAnswer (length (now (cells .entry))) (now (text .entry)) .shape .margins ⌝ }
-    ensures cells { λ _. ⌜ now (cells .exit) ≡ cellsAfter (now (text .entry)) (now (cells .entry)) ⌝ }
+    ensures { λ r. let lines = now (text .entry) in let room = length (now (cells .entry)) in let s = readAnswer room lines .shape in
+        ⌜ (r ≡ readCause room lines) × (now (k .exit) ≡ s .k) × (now (sizes .exit) ≡ s .sizes) × (now (margins .exit) ≡ s .margins)
+        × (now (cells .exit) ≡ cellsAfter lines (now (cells .entry))) ⌝ }
 {
     let reading = read(text, cells);
     let shape = reading.shape;
@@ -624,9 +641,9 @@ pub extern "C" fn overlay_write_text(
     text: &mut [u8],
     size: &mut usize,
 ) -> u32
-    ensures number { λ r. ⌜ r ≡ writeCause (shapeOf k (now (sizes .entry)) (now (margins .entry))) (now (cells .entry)) (length (now (text .entry))) ⌝ }
-    ensures size { λ _. ⌜ now (size .exit) ≡ writeLength (shapeOf k (now (sizes .entry)) (now (margins .entry))) (now (cells .entry)) (length (now (text .entry))) ⌝ }
-    ensures text { λ _. ⌜ now (text .exit) ≡ bufferAfter (shapeOf k (now (sizes .entry)) (now (margins .entry))) (now (cells .entry)) (now (text .entry)) ⌝ }
+    ensures { λ r. let s = shapeOf k (now (sizes .entry)) (now (margins .entry)) in let rects = now (cells .entry) in let lent = now (text .entry) in
+        ⌜ (r ≡ writeCause s rects (length lent)) × (now (size .exit) ≡ lengthOf (writeAnswer s rects (length lent)))
+        × (now (text .exit) ≡ bufferAfter s rects lent) ⌝ }
 {
     let six = *sizes;
     let wide = *margins;
@@ -643,8 +660,9 @@ pub extern "C" fn overlay_write_text(
     written_number(writing)
 }
 
-// Puts the covers of the kept records into the first cells; how many there are is left in `kept`. Kinds (0 free, 1 lower stop, 2 upper stop, 3 both) and stops (lower, upper)
-// are those of the strip across, which bounds left and right, and then of the strip upward; a kind above 3 is 21. After a refusal `kept` is 0.
+// Puts the covers of the kept records into the first cells; how many there are is left in `kept`. Kinds (0 free, 1 lower stop, 2 upper stop, 3 both) and
+// stops (lower, upper) are those of the strip across, which bounds left and right, and then of the strip upward; a kind above 3 is 21. After a refusal
+// `kept` is 0.
 #[no_mangle]
 pub extern "C" fn overlay_cover_records(
     kinds: &[u32; 2],
@@ -653,9 +671,10 @@ pub extern "C" fn overlay_cover_records(
     cells: &mut [i32],
     kept: &mut usize,
 ) -> u32
-    ensures number { λ r. ⌜ r ≡ coverCause (acrossIn (now (kinds .entry)) (now (stops .entry))) (upwardIn (now (kinds .entry)) (now (stops .entry))) (now (corners .entry)) (length (now (cells .entry))) ⌝ }
-    ensures kept { λ _. ⌜ now (kept .exit) ≡ coverValues (coverAnswer (acrossIn (now (kinds .entry)) (now (stops .entry))) (upwardIn (now (kinds .entry)) (now (stops .entry))) (now (corners .entry)) (length (now (cells .entry)))) .kept ⌝ }
-    ensures cells { λ _. ⌜ now (cells .exit) ≡ coverAfter (acrossIn (now (kinds .entry)) (now (stops .entry))) (upwardIn (now (kinds .entry)) (now (stops .entry))) (now (corners .entry)) (now (cells .entry)) ⌝ }
+    ensures { λ r. let across = acrossIn (now (kinds .entry)) (now (stops .entry)) in let upward = upwardIn (now (kinds .entry)) (now (stops .entry)) in
+        let floats = now (corners .entry) in let lent = now (cells .entry) in
+        ⌜ (r ≡ coverCause across upward floats (length lent)) × (now (kept .exit) ≡ coverValues (coverAnswer across upward floats (length lent)) .kept)
+        × (now (cells .exit) ≡ coverAfter across upward floats lent) ⌝ }
 {
     let two = *kinds;
     let four = *stops;

@@ -13,23 +13,23 @@ use Rattle.totals.specs.Totals.{totalOf, valueOf}
 use Rattle.geometry.specs.Rectangles as Rectangles
 use Rattle.geometry.specs.Rectangles.{maxZ, minZ, common, nonempty, meets, between, held, inRange, grownBy, areaOf, inExtent}
 use Rattle.geometry.proofs.Machine.{rect-eq}
-use Rattle.plan.specs.Plan.{rectAt, grown, fitsAt, planCause, layers}
+use Rattle.plan.specs.Plan.{rectAt, sizesOf, grown, fitsAt, planCause, layers}
 use Rattle.sweep.specs.Sweep.{before, sweepOrder, orderCause}
 use Rattle.join.specs.Join.{areaIn, kindIn, sameZ}
-use Rattle.join.specs.Table.{same-spot, belongs, tableOf}
+use Rattle.join.specs.Table.{same-spot, belongs, tableOf, planTable}
 use Rattle.rows.specs.RowCall.{isRow, rowCall, commonCall}
 use Rattle.walk.specs.Walk.{walkOf}
 use Rattle.windows.specs.Windows.{windowAt, isWindow, areHours, isOpen}
 use Rattle.windows.specs.HoursCall.{hoursCause, hoursCall}
 use Rattle.timed.specs.Timed.{timedWalkOf, timedTableOf}
 use Rattle.paging.specs.Cursors.{sameCursor, resume}
-use Rattle.paging.specs.Calls.{current, freshCause, freshCall, freshCounter, pageCause, pageCall, pageTable, pageCounter, runCause, runCall}
-use Rattle.decimal.specs.Numerals.{size, decimal}
+use Rattle.paging.specs.Calls.{current, freshCause, freshCall, freshCounter, pageCause, pageCall, pageTable, pageCounter, runCause}
+use Rattle.decimal.specs.Numerals.{size, decimal, numeral}
 use Rattle.decimal.specs.Bytes.{kindOf}
 use Rattle.decimal.specs.Reading.{number}
 use Rattle.line.specs.Parsing.{line}
 use Rattle.text.specs.Parsing.{linesOf}
-use Rattle.text.specs.Plans.{shapeIn, agrees}
+use Rattle.text.specs.Plans.{planLines, textOf, shapeIn, agrees}
 use Rattle.text.specs.Reader.{readCause, textShape, textCells}
 use Rattle.printing.specs.Lines as Lines
 use Rattle.printing.specs.Lines.{rowFields, squareMetres}
@@ -40,8 +40,7 @@ use Rattle.geometry.specs.declared.Rect.{Rect}
 use Rattle.geometry.proofs.Integers.{zarith, add-law}
 use Rattle.ground.specs.Union.{covers, unionOf, grounds}
 use Rattle.ground.specs.Theorems.{corners}
-use Rattle.ground.proofs.Theorems.{union-holds}
-use Rattle.paging.specs.Overlays.{overlay}
+use Rattle.ground.proofs.Theorems.{union-holds, union-members}
 
 -- a layer of n rectangles at one point, and an empty one, are a plan for n up to 512: shown for any n, since to compute it takes long
 point-at : (n i : ℕ) → i < n → rectAt (alike n) i ≡ record { left = pos 0; bottom = pos 0; right = pos 0; top = pos 0 }
@@ -65,10 +64,10 @@ one-layer n h =
 
 -- ---- reports: the union of a table's rows is not computed square by square
 -- what is printed for a text whose rows' common ground comes to u
-report-with : (t : List ℕ) (u : ℕ) → let s = textShape t in let cells = textCells t in reportCause t ≡ 0 → runCause s cells (sweepOrder (grown s cells)) emptyTable 12288 ≡ 0
-    → unionOf (grounds (layers s cells) (overlay s cells .table)) ≡ u → reportOf t ≡ Lines.rowLines (layers s cells) (overlay s cells .table) ++ Lines.totalLine (length (overlay s cells .table)) (length (overlay s cells .walk)) (totalOf u)
-unfolding reportOf runCall
-report-with t u e f g = rw (e, f, g)
+report-with : (t : List ℕ) (u : ℕ) → let s = textShape t in let cells = textCells t in let table = planTable s cells in reportCause t ≡ 0 → unionOf (grounds (layers s cells) table) ≡ u
+    → reportOf t ≡ Lines.rowLines (layers s cells) table ++ Lines.totalLine (length table) (length (walkOf (sizesOf s) (grown s cells))) (totalOf u)
+unfolding reportOf
+report-with t u e g = rw (e, g)
 
 -- two rectangles that share no square
 abbrev Apart : Rect → Rect → Type 0
@@ -96,7 +95,7 @@ union-twice : unionOf (corners (pos 0) (pos 0) (pos 1000) (pos 1000) ∷ corners
 unfolding areaOf held between nonempty
 union-twice =
     let r = corners (pos 0) (pos 0) (pos 1000) (pos 1000) in
-    union-holds .members (r ∷ r ∷ []) (r ∷ []) (λ q. (less q, λ m. List·Memᴰ·tail m)) ∙ union-holds .apart (r ∷ []) (_and_ refl none-left) (_then_ none-left done)
+    union-members (r ∷ r ∷ []) (r ∷ []) (λ q. (less q, λ m. List·Memᴰ·tail m)) ∙ union-holds .apart (r ∷ []) (_and_ refl none-left) (_then_ none-left done)
   where
     less : (q : Rect) → List·Memᴰ q (corners (pos 0) (pos 0) (pos 1000) (pos 1000) ∷ corners (pos 0) (pos 0) (pos 1000) (pos 1000) ∷ []) → List·Memᴰ q (corners (pos 0) (pos 0) (pos 1000) (pos 1000) ∷ [])
     less q (List·Memᴰ·head e) = List·Memᴰ·head e
@@ -112,7 +111,7 @@ _also_ : {c : Case} {cs : List Case} → Holds c → All Holds cs → All Holds 
 _also_ h hs = _and_ h hs
 
 pub ground-holds : GroundHolds
-unfolding windowAt isWindow areHours isOpen hoursCause hoursCall timedTableOf timedWalkOf totalOf valueOf maxZ minZ common nonempty meets Rectangles.kindOf between held areaOf rectAt grownBy grown fitsAt planCause before sweepOrder orderCause areaIn kindIn sameZ same-spot belongs tableOf isRow rowCall commonCall walkOf same sameCursor resume current freshCause freshCall freshCounter pageCause pageCall pageTable pageCounter readCause textShape textCells linesOf line number kindOf shapeIn agrees size decimal Lines.lineOf rowFields squareMetres runCause runCall emptyTable reportCause reportOf
+unfolding windowAt isWindow areHours isOpen hoursCause hoursCall timedTableOf timedWalkOf totalOf valueOf maxZ minZ common nonempty meets Rectangles.kindOf between held areaOf rectAt grownBy grown fitsAt planCause before sweepOrder orderCause areaIn kindIn sameZ same-spot belongs tableOf isRow rowCall commonCall walkOf same sameCursor resume current freshCause freshCall freshCounter pageCause pageCall pageTable pageCounter readCause textShape textCells linesOf line number kindOf planLines textOf shapeIn agrees size decimal numeral Lines.lineOf rowFields squareMetres runCause emptyTable reportCause reportOf
 ground-holds =
     (refl, refl, refl)
     also (refl, refl, refl, refl, refl, refl, refl, (refl, refl, refl, refl, refl, refl, refl, tt))
@@ -124,6 +123,13 @@ ground-holds =
     also (refl, refl, refl)
     also (refl, refl, refl)
     also (refl, refl, refl)
+    also (refl, refl)
+    also (refl, refl)
+    also (refl, refl)
+    also (refl, refl)
+    also (refl, refl)
+    also (refl, refl)
+    also (refl, refl)
     also (refl, refl)
     also (refl, refl)
     also (refl, refl)
@@ -146,10 +152,10 @@ ground-holds =
     also (refl, refl)
     also (refl, refl)
     also (refl, refl)
-    also report-with dText 250000 refl refl union-d
-    also report-with smallText 9800 refl refl union-small
-    also report-with twiceText 1000000 refl refl union-twice
-    also report-with cornerText 0 refl refl union-corner
+    also report-with dText 250000 refl union-d
+    also report-with smallText 9800 refl union-small
+    also report-with twiceText 1000000 refl union-twice
+    also report-with cornerText 0 refl union-corner
     also refl
     also (refl, refl)
     also (refl, refl)
@@ -196,11 +202,35 @@ ground-holds =
     also (refl, refl, refl)
     also (refl, refl, refl)
     also (refl, refl, refl)
+    also (refl, refl)
+    also (refl, refl)
+    also (refl, refl)
+    also (refl, refl)
+    also (refl, refl)
     also refl
     also refl
     also refl
     also refl
+    also (refl, refl)
     also refl
     also refl
-    also refl
+    also (refl, refl)
+    also (refl, refl)
+    also (refl, refl)
+    also (refl, refl, λ n. (refl, refl))
+    also (refl, refl)
+    also (refl, refl)
+    also (refl, refl)
+    also (refl, refl)
+    also (refl, refl)
+    also (refl, refl)
+    also (refl, refl)
+    also (refl, refl)
+    also (refl, refl)
+    also (refl, refl)
+    also (refl, refl)
+    also (refl, refl)
+    also (refl, refl)
+    also (refl, refl)
+    also (refl, refl)
     also none-left

@@ -1,18 +1,19 @@
 -- What the readers and writers of cells need.
 use mathlib.Core.Path.{_≡_, refl, sym, ap, _∙_}
-use mathlib.Core.List.{List, [], _∷_}
+use mathlib.Core.List.{List, [], _∷_, _++_}
 use mathlib.Core.Bool.{Bool, cond}
-use Prim.Native.Nat.{ℕ, zero, suc, _/_, _%_, _≤_, _<_}
-use lib.Dec.{eqb}
-use lib.ListN.{getD}
+use Prim.Native.Nat.{ℕ, zero, suc, _<_}
+use lib.Dec.{leb}
+use lib.ListN.{length, getD, length-append}
 use lib.IntN.{pos}
 use lib.Ieee.{Float, binary64, ofBits}
 use native.Mathlib.Omega.{arith}
 use mir.Syntax.{w32}
-use mir.Val.{boolByte, toZ, ofZ}
+use mir.Val.{toZ, ofZ}
 use mir.Facts.{toZ-ofZ, toZ-pos}
-use borrow.Author.Tests.{le-leb, lt-leb}
-use Rattle.lists.proofs.Tests.{as-number}
+use borrow.Author.Tests.{lt-leb}
+use Rattle.lists.specs.Lists.{padded}
+use Rattle.lists.proofs.Padding.{padded-long}
 use Rattle.geometry.specs.declared.Rect.{Rect}
 use Rattle.geometry.specs.declared.Kind.{Kind}
 use Rattle.geometry.specs.declared.Kind.the-variants.{Ground, Edge, Point}
@@ -25,27 +26,33 @@ use Rattle.survey.specs.declared.Strip.the-variants.{Between}
 use Rattle.paging.specs.declared.Run.{Run}
 use Rattle.paging.specs.declared.Run.the-variants.{Refused, Done}
 use Rattle.paging.specs.declared.Cursor.{Cursor}
-use Rattle.paging.specs.declared.Ticket.{Ticket}
 use Rattle.paging.specs.declared.Page.{Page}
+use Rattle.paging.specs.declared.Ticket.{Ticket}
 use Rattle.paging.specs.Calls.{stopNumber, runValues}
 use Rattle.cells.specs.Cells.{ticketCells, noCursor, cursorIn, ticketAfter, runCells, stripIn}
 
--- a ticket's cells as they are made
-pub made : (t : Ticket) → let c = t .cursor in boolByte (c .ended) ∷ c .layer ∷ c .place ∷ c .filled ∷ getD (c .chosen) 0 0 ∷ getD (c .chosen) 1 0 ∷ getD (c .chosen) 2 0 ∷ getD (c .chosen) 3 0 ∷ getD (c .chosen) 4 0 ∷ c .next ∷ t .count % 4294967296 ∷ t .count / 4294967296 ∷ [] ≡ ticketCells t
-made t = rw (as-number (t .cursor .ended)) refl
+-- five cells, one by one
+pub five-cells : (l : List ℕ) → getD l 0 0 ∷ getD l 1 0 ∷ getD l 2 0 ∷ getD l 3 0 ∷ getD l 4 0 ∷ [] ≡ padded 5 l
+five-cells [] = refl
+five-cells (a ∷ []) = refl
+five-cells (a ∷ b ∷ []) = refl
+five-cells (a ∷ b ∷ c ∷ []) = refl
+five-cells (a ∷ b ∷ c ∷ d ∷ []) = refl
+five-cells (a ∷ b ∷ c ∷ d ∷ e ∷ l) = refl
 
--- the cursor in cells whose first is 0 or 1
-abbrev pub plainCursor : List ℕ → Cursor
-plainCursor l =
-    record { ended = eqb (getD l 0 0) 1; layer = getD l 1 0; place = getD l 2 0; filled = getD l 3 0; chosen = getD l 4 0 ∷ getD l 5 0 ∷ getD l 6 0 ∷ getD l 7 0 ∷ getD l 8 0 ∷ []; next = getD l 9 0 }
+-- a ticket has twelve: four, whatever they are, five, one and two
+twelve : (n : ℕ) (l last : List ℕ) → length last ≡ 2 → length (0 ∷ 0 ∷ 0 ∷ 0 ∷ padded 5 l ++ n ∷ [] ++ last) ≡ 12
+twelve n l last two = omega (arith, length-append (padded 5 l ++ n ∷ []) last, length-append (padded 5 l) (n ∷ []), padded-long 5 l)
+
+pub ticket-long : (t : Ticket) → length (ticketCells t) ≡ 12
+ticket-long t = twelve _ (t .cursor .chosen) _ refl
 
 -- cells whose first is above 1 are no cursor
-pub in-none : (l : List ℕ) → 1 < getD l 0 0 → noCursor ≡ cursorIn l
-in-none l high = sym (ap (λ (t : Bool). cond t (plainCursor l) noCursor) (lt-leb (getD l 0 0) 1 high))
+none-at : (flag : ℕ) (c : Cursor) → 1 < flag → noCursor ≡ cond (leb flag 1) c noCursor
+none-at flag c high = sym (ap (λ (t : Bool). cond t c noCursor) (lt-leb flag 1 high))
 
--- all others are one
-pub in-some : (l : List ℕ) → getD l 0 0 ≤ 1 → plainCursor l ≡ cursorIn l
-in-some l low = sym (ap (λ (t : Bool). cond t (plainCursor l) noCursor) (le-leb (getD l 0 0) 1 low))
+pub in-none : (l : List ℕ) → 1 < getD l 0 0 → noCursor ≡ cursorIn l
+in-none l high = none-at (getD l 0 0) _ high
 
 choice : {A : Type 0} (n : ℕ) (a b : A) → (n ≡ 0 → ⊥) → b ≡ onCause n a (λ m. b)
 choice zero a b some = absurd (some refl)

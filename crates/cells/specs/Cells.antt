@@ -1,11 +1,13 @@
--- Tickets, answers and strips as cells: how the C interface lays them out. The number of a cause is returned; the cells of a refused answer are 0, a refused fresh ticket says Ended, and a refused page leaves the ticket.
+-- Tickets, answers and strips as cells: how the C interface lays them out. The number of a cause is returned; the cells of a refused answer are 0, a refused
+-- fresh ticket says Ended, and a refused page leaves the ticket.
 use mathlib.Core.List.{List, [], _∷_, _++_}
 use mathlib.Core.Bool.{true, cond}
 use Prim.Native.Nat.{ℕ, zero, suc, _+_, _*_, _/_, _%_}
 use lib.Dec.{eqb, leb}
-use lib.ListN.{getD}
+use lib.ListN.{getD, drop}
 use lib.IntN.{ℤ, pos}
 use lib.Ieee.{Float, nan}
+use Rattle.lists.specs.Lists.{padded}
 use Rattle.plan.specs.declared.Shape.{Shape}
 use Rattle.plan.specs.Causes.{onCause}
 use Rattle.rows.specs.RowCall.{RowValues, CommonValues}
@@ -27,8 +29,7 @@ shapeOf k sizes margins = record { k = k; sizes = sizes; margins = margins }
 
 -- ---- tickets: whether the walk has ended (0 or 1), the guard's layer and place, how many slots are filled, the five chosen places, the place to try
 abbrev pub cursorCells : Cursor → List ℕ
-cursorCells c =
-    cond (c .ended) 1 0 ∷ c .layer ∷ c .place ∷ c .filled ∷ getD (c .chosen) 0 0 ∷ getD (c .chosen) 1 0 ∷ getD (c .chosen) 2 0 ∷ getD (c .chosen) 3 0 ∷ getD (c .chosen) 4 0 ∷ c .next ∷ []
+cursorCells c = cond (c .ended) 1 0 ∷ c .layer ∷ c .place ∷ c .filled ∷ padded 5 (c .chosen) ++ c .next ∷ []
 
 -- ... and then the count, low and high
 abbrev pub ticketCells : Ticket → List ℕ
@@ -36,12 +37,14 @@ ticketCells t = cursorCells (t .cursor) ++ t .count % 4294967296 ∷ t .count / 
 
 -- stands for cells that are no cursor: it says Ended and has a layer, so the page call refuses it by 6
 abbrev pub noCursor : Cursor
-noCursor = record { ended = true; layer = 1; place = 0; filled = 0; chosen = 0 ∷ 0 ∷ 0 ∷ 0 ∷ 0 ∷ []; next = 0 }
+noCursor = record { ended = true; layer = 1; place = 0; filled = 0; chosen = padded 5 []; next = 0 }
 
 -- the cursor in cells; a first cell above 1 makes them none
 abbrev pub cursorIn : List ℕ → Cursor
 cursorIn l =
-    cond (leb (getD l 0 0) 1) (record { ended = eqb (getD l 0 0) 1; layer = getD l 1 0; place = getD l 2 0; filled = getD l 3 0; chosen = getD l 4 0 ∷ getD l 5 0 ∷ getD l 6 0 ∷ getD l 7 0 ∷ getD l 8 0 ∷ []; next = getD l 9 0 }) noCursor
+    cond (leb (getD l 0 0) 1)
+    (record { ended = eqb (getD l 0 0) 1; layer = getD l 1 0; place = getD l 2 0; filled = getD l 3 0; chosen = padded 5 (drop 4 l); next = getD l 9 0 })
+    noCursor
 
 -- the ticket in cells
 abbrev pub ticketIn : List ℕ → Ticket
@@ -71,7 +74,7 @@ rowCells v = v .layer ∷ v .area ∷ []
 
 -- ---- the common ground of a row: left, bottom, right, top, the letter of the kind
 abbrev pub commonCells : CommonValues → List ℤ
-commonCells v = v .left ∷ v .bottom ∷ v .right ∷ v .top ∷ pos (v .kind) ∷ []
+commonCells v = let r = v .common in r .left ∷ r .bottom ∷ r .right ∷ r .top ∷ pos (v .kind) ∷ []
 
 -- ---- pairs of layers: the lower layer, the higher
 abbrev pub pairCells : PairValues → List ℕ
@@ -94,8 +97,9 @@ stripIn (suc (suc (suc zero))) lower upper = Between lower upper
 stripIn (suc (suc (suc (suc kind)))) lower upper = noStrip
 
 -- the strips of both axes, in a kind and two stops for each
-abbrev pub acrossIn : List ℕ → List Float → Strip
-acrossIn kinds stops = stripIn (getD kinds 0 0) (getD stops 0 nan) (getD stops 1 nan)
+module _ (kinds : List ℕ) (stops : List Float) where
+  abbrev pub acrossIn : Strip
+  acrossIn = stripIn (getD kinds 0 0) (getD stops 0 nan) (getD stops 1 nan)
 
-abbrev pub upwardIn : List ℕ → List Float → Strip
-upwardIn kinds stops = stripIn (getD kinds 1 0) (getD stops 2 nan) (getD stops 3 nan)
+  abbrev pub upwardIn : Strip
+  upwardIn = stripIn (getD kinds 1 0) (getD stops 2 nan) (getD stops 3 nan)

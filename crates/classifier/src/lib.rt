@@ -19,12 +19,13 @@ ghost use Rattle.plan.specs.Frames.{Framed};
 ghost use Rattle.join.specs.Join.{rects, commonOf, sameZ};
 ghost use Rattle.rows.specs.RowCall.{isRow};
 ghost use Rattle.crossings.specs.Crossings.{covers, classIn};
-ghost use Rattle.crossings.specs.ClassCall.{lies, allLie, segmented, unwidened, crossingCause, classCall, classValues};
-ghost use Rattle.crossings.specs.Ends.{endIn, classTold};
+ghost use Rattle.crossings.specs.ClassCall.{lies, segmented, unwidened, crossingCause, classCall, classValues};
+ghost use Rattle.crossings.specs.Ends.{endIn, allLie, classTold};
 
 // The class of the row that the lent cells name in the table of a plan.
 pub fn class_of(shape: Shape, cells: &[i32], places: &[u32]) -> ClassAnswer
-    ensures { λ r. ⌜ r ≡ classCall shape (now (cells .entry)) (now (places .entry)) ⌝ }
+    ensures answer { λ r. ⌜ r ≡ classCall shape (now (cells .entry)) (now (places .entry)) ⌝ }
+    ensures values { λ r. ⌜ classValues r ≡ classValues (classCall shape (now (cells .entry)) (now (places .entry))) ⌝ }
 {
     let cause = crossing_cause(shape, cells);
     if cause != 0 {
@@ -47,7 +48,7 @@ fn class_told(sizes: &[u32], k: usize, cells: &[i32], places: &[u32]) -> ClassAn
     }
 }
 
-// The first of the causes 1 to 4, 17, 15 and 16 that applies, or 0.
+// The first of the causes 1 2 17 3 4 15 16 that applies, or 0.
 pub fn crossing_cause(shape: Shape, cells: &[i32]) -> u32
     ensures { λ r. ⌜ r ≡ crossingCause shape (now (cells .entry)) ⌝ }
 {

@@ -17,7 +17,7 @@ use Rattle.geometry.specs.Rectangles.{In}
 use Rattle.geometry.proofs.Integers.{zarith}
 use Rattle.join.specs.Join.{commonOf}
 use Rattle.crossings.specs.Crossings.{covers, coversFirst, coversLast, horizontalOf, verticalOf, othersOf, ifSo, numbersFrom, classOf}
-use Rattle.crossings.specs.Theorems.{ofLayer, Crosses, Numbered, left, right, bottom, top, IsClass}
+use Rattle.crossings.specs.Theorems.{ofLayer, Crosses, Covered, left, right, bottom, top, Numbered, numbered, IsClass}
 use Rattle.crossings.proofs.Classes.{Rising, numbers-rise, Shares, class-first, others-long}
 
 pub covers-in : (r : Rect) (x y : ℤ) → covers r x y ≡ true → In x y r
@@ -148,13 +148,23 @@ module _ (rs : List Rect) (s : Shares rs) where
       reached-mem (horizontalOf rs) (verticalOf rs) 0 (othersOf rs) (i - 1) (omega (arith, others-long rs s))
       (subst (λ (r : Rect). Reached (horizontalOf rs) (verticalOf rs) r (4 * (0 + (i - 1))) d) (sym (other i a b)) q)
 
-  numbered-mem : {d : ℕ} → Numbered rs d → List·Memᴰ d numbers
-  numbered-mem (left i a b q) = reached i _ a b (at-left (in-covers _ _ _ (subst (λ (h : Rect). In (h .left) (h .bottom) (ofLayer rs i)) across q)) (omega arith))
-  numbered-mem (right i a b q) = reached i _ a b (at-right (in-covers _ _ _ (subst (λ (h : Rect). In (h .right) (h .top) (ofLayer rs i)) across q)) (omega arith))
-  numbered-mem (bottom i a b q) = reached i _ a b (at-bottom (in-covers _ _ _ q) (omega arith))
-  numbered-mem (top i a b q) = reached i _ a b (at-top (in-covers _ _ _ q) (omega arith))
+  -- its segments
+  abbrev h : Rect
+  h = ofLayer rs (length rs - 1)
 
-  mem-numbered : {d : ℕ} → List·Memᴰ d numbers → Numbered rs d
+  abbrev v : Rect
+  v = ofLayer rs (length rs)
+
+  covered-mem : (i : ℕ) → 1 ≤ i → i + 2 ≤ length rs → {e : ℕ} → Covered h v (ofLayer rs i) e → List·Memᴰ (4 * (i - 1) + e) numbers
+  covered-mem i a b (left q) = reached i _ a b (at-left (in-covers _ _ _ (subst (λ (h : Rect). In (h .left) (h .bottom) (ofLayer rs i)) across q)) (omega arith))
+  covered-mem i a b (right q) = reached i _ a b (at-right (in-covers _ _ _ (subst (λ (h : Rect). In (h .right) (h .top) (ofLayer rs i)) across q)) (omega arith))
+  covered-mem i a b (bottom q) = reached i _ a b (at-bottom (in-covers _ _ _ q) (omega arith))
+  covered-mem i a b (top q) = reached i _ a b (at-top (in-covers _ _ _ q) (omega arith))
+
+  numbered-mem : {d : ℕ} → Numbered rs h v d → List·Memᴰ d numbers
+  numbered-mem (numbered i a b q) = covered-mem i a b q
+
+  mem-numbered : {d : ℕ} → List·Memᴰ d numbers → Numbered rs h v d
   mem-numbered {d} m = let f = mem-reached (horizontalOf rs) (verticalOf rs) 0 (othersOf rs) d m in go (f .0) (f .1) (f .2)
     where
       same : (p : ℕ) → p < length (othersOf rs) → getD (othersOf rs) p (commonOf []) ≡ ofLayer rs (p + 1)
@@ -162,61 +172,61 @@ module _ (rs : List Rect) (s : Shares rs) where
           let e : p + 1 - 1 ≡ p = omega arith in
           getD-take (length rs - 2) rs p (commonOf []) (omega (arith, others-long rs s)) ∙ sym (ap (λ (n : ℕ). getD rs n (commonOf [])) e)
 
-      is : (p e : ℕ) → d ≡ 4 * (0 + p) + e → 4 * (p + 1 - 1) + e ≡ d
-      is p e q = omega arith
+      at : (p e : ℕ) → p < length (othersOf rs) → d ≡ 4 * (0 + p) + e → Covered h v (ofLayer rs (p + 1)) e → Numbered rs h v d
+      at p e l q c = let z : 4 * (p + 1 - 1) + e ≡ d = omega arith in subst (Numbered rs h v) z (numbered (p + 1) (omega arith) (omega (arith, others-long rs s)) c)
 
-      go : (p : ℕ) → p < length (othersOf rs) → Reached (horizontalOf rs) (verticalOf rs) (getD (othersOf rs) p (commonOf [])) (4 * (0 + p)) d → Numbered rs d
-      go p l (at-left e q) =
-          subst (Numbered rs) (is p 1 q) (left (p + 1) (omega arith) (omega (arith, others-long rs s)) (rw (across, ← same p l) (covers-in _ _ _ e)))
-      go p l (at-right e q) =
-          subst (Numbered rs) (is p 2 q) (right (p + 1) (omega arith) (omega (arith, others-long rs s)) (rw (across, ← same p l) (covers-in _ _ _ e)))
-      go p l (at-bottom e q) =
-          subst (Numbered rs) (is p 3 q) (bottom (p + 1) (omega arith) (omega (arith, others-long rs s)) (rw (← same p l) (covers-in _ _ _ e)))
-      go p l (at-top e q) =
-          subst (Numbered rs) (is p 4 q) (top (p + 1) (omega arith) (omega (arith, others-long rs s)) (rw (← same p l) (covers-in _ _ _ e)))
+      go : (p : ℕ) → p < length (othersOf rs) → Reached (horizontalOf rs) (verticalOf rs) (getD (othersOf rs) p (commonOf [])) (4 * (0 + p)) d → Numbered rs h v d
+      go p l (at-left e q) = at p 1 l q (left (rw (across, ← same p l) (covers-in _ _ _ e)))
+      go p l (at-right e q) = at p 2 l q (right (rw (across, ← same p l) (covers-in _ _ _ e)))
+      go p l (at-bottom e q) = at p 3 l q (bottom (rw (← same p l) (covers-in _ _ _ e)))
+      go p l (at-top e q) = at p 4 l q (top (rw (← same p l) (covers-in _ _ _ e)))
 
-  class-numbered : (classOf rs ≡ 0 → ⊥) → Numbered rs (classOf rs)
+  class-numbered : (classOf rs ≡ 0 → ⊥) → Numbered rs h v (classOf rs)
   class-numbered n = mem-numbered (subst (λ (c : ℕ). List·Memᴰ c numbers) (sym (class-first rs s)) (first-mem numbers (λ e. n (class-first rs s ∙ e))))
 
-  class-least : {d : ℕ} → Numbered rs d → (1 ≤ classOf rs) × (classOf rs ≤ d)
+  class-least : {d : ℕ} → Numbered rs h v d → (1 ≤ classOf rs) × (classOf rs ≤ d)
   class-least {d} k =
       let f = first-least numbers (numbers-rise (horizontalOf rs) (verticalOf rs) 0 (othersOf rs)) (numbered-mem k) in
       (omega (arith, class-first rs s, f .0), omega (arith, class-first rs s, f .1))
 
-  class-most : {d : ℕ} → Numbered rs d → d ≤ 4 * (length rs - 2)
-  class-most (left i a b q) = omega arith
-  class-most (right i a b q) = omega arith
-  class-most (bottom i a b q) = omega arith
-  class-most (top i a b q) = omega arith
+  class-most : {d : ℕ} → Numbered rs h v d → d ≤ 4 * (length rs - 2)
+  class-most (numbered i a b (left q)) = omega arith
+  class-most (numbered i a b (right q)) = omega arith
+  class-most (numbered i a b (bottom q)) = omega arith
+  class-most (numbered i a b (top q)) = omega arith
 
   -- every point of the row lies in each rectangle
   point : (i : ℕ) → 1 ≤ i → i ≤ length rs → In (s .x) (s .y) (ofLayer rs i)
   point i a b = all-getD (commonOf []) (s .inside) (i - 1) (omega arith)
 
-  cross-all : classOf rs ≡ 0 → (i : ℕ) → 1 ≤ i → i + 2 ≤ length rs → Crosses (ofLayer rs (length rs - 1)) (ofLayer rs i) × Crosses (ofLayer rs (length rs)) (ofLayer rs i)
+  -- both segments cross every other rectangle
+  abbrev CrossAll : Type 0
+  CrossAll = (i : ℕ) → 1 ≤ i → i + 2 ≤ length rs → Crosses h (ofLayer rs i) × Crosses v (ofLayer rs i)
+
+  cross-all : classOf rs ≡ 0 → CrossAll
   cross-all e i a b = (
     record {
       meet = (s .x, s .y, (point (length rs - 1) (omega arith) (omega arith), point i a (omega arith)));
-      first = λ q. none (left i a b q);
-      last = λ q. none (right i a b q);
+      first = λ q. none (left q);
+      last = λ q. none (right q);
     },
     record {
       meet = (s .x, s .y, (point (length rs) (omega arith) (omega arith), point i a (omega arith)));
-      first = λ q. none (bottom i a b q);
-      last = λ q. none (top i a b q);
+      first = λ q. none (bottom q);
+      last = λ q. none (top q);
     },
   )
     where
-      none : {d : ℕ} → Numbered rs d → ⊥
-      none k = omega (arith, class-least k .0)
+      none : {d : ℕ} → Covered h v (ofLayer rs i) d → ⊥
+      none c = omega (arith, class-least (numbered i a b c) .0)
 
-  none-covered : ((i : ℕ) → 1 ≤ i → i + 2 ≤ length rs → Crosses (ofLayer rs (length rs - 1)) (ofLayer rs i) × Crosses (ofLayer rs (length rs)) (ofLayer rs i)) → {d : ℕ} → Numbered rs d → ⊥
-  none-covered f (left i a b q) = f i a b .0 .first q
-  none-covered f (right i a b q) = f i a b .0 .last q
-  none-covered f (bottom i a b q) = f i a b .1 .first q
-  none-covered f (top i a b q) = f i a b .1 .last q
+  none-covered : CrossAll → {d : ℕ} → Numbered rs h v d → ⊥
+  none-covered f (numbered i a b (left q)) = f i a b .0 .first q
+  none-covered f (numbered i a b (right q)) = f i a b .0 .last q
+  none-covered f (numbered i a b (bottom q)) = f i a b .1 .first q
+  none-covered f (numbered i a b (top q)) = f i a b .1 .last q
 
-  pub is-class : IsClass rs (classOf rs)
+  pub is-class : IsClass rs h v (classOf rs)
   is-class = record {
     none = (cross-all, λ f. zero-of (classOf rs) refl f);
     one = class-numbered;
@@ -224,7 +234,7 @@ module _ (rs : List Rect) (s : Shares rs) where
     most = most-of (classOf rs) refl;
   }
     where
-      zero-of : (c : ℕ) → classOf rs ≡ c → ((i : ℕ) → 1 ≤ i → i + 2 ≤ length rs → Crosses (ofLayer rs (length rs - 1)) (ofLayer rs i) × Crosses (ofLayer rs (length rs)) (ofLayer rs i)) → classOf rs ≡ 0
+      zero-of : (c : ℕ) → classOf rs ≡ c → CrossAll → classOf rs ≡ 0
       zero-of zero e f = e
       zero-of (suc c) e f = absurd (none-covered f (class-numbered (λ z. omega arith)))
 

@@ -25,7 +25,8 @@ use Rattle.join.proofs.Table.{within-long}
 use Rattle.rows.specs.RowCall.{fits, isRow}
 use Rattle.rows.proofs.RowCall.{fits-at, fits-within, is-row, sizes-of}
 use Rattle.crossings.specs.Crossings.{covers}
-use Rattle.crossings.specs.ClassCall.{lies, allLie, layerLies, segmented}
+use Rattle.crossings.specs.ClassCall.{lies, layerLies, segmented}
+use Rattle.crossings.specs.Ends.{allLie}
 use Rattle.crossings.proofs.Classes.{Shares}
 
 -- ---- tests, as the code makes them

@@ -1,11 +1,12 @@
--- The class call (02, Q-2): "takes a plan and a row's cells and returns the class, 17 where they name no row"; its checks 15 and 16; how many rows fall in each class.
-use mathlib.Core.List.{List, [], _∷_}
+-- The class call (02, Q-2): "takes a plan and a row's cells and returns the class, 17 where they name no row"; its checks 15 and 16; how many rows fall in
+-- each class.
+use mathlib.Core.List.{List}
 use mathlib.Core.Bool.{Bool, true, false, cond, _&&_}
 use Prim.Native.Nat.{ℕ, _-_}
 use lib.IntN.{ℤ}
 use lib.Dec.{eqb, leb}
 use lib.ListN.{length, getD}
-use Rattle.lists.specs.Lists.{each, keep, holdsBelow}
+use Rattle.lists.specs.Lists.{upto, keep, holdsBelow}
 use Rattle.geometry.specs.declared.Rect.{Rect}
 use Rattle.plan.specs.declared.Shape.{Shape}
 use Rattle.plan.specs.Causes.{unless, _orElse_, onCause}
@@ -22,15 +23,11 @@ use Rattle.crossings.specs.Crossings.{classIn}
 unfoldable pub lies : (level : Bool) → Rect → Bool
 lies level r = cond level (sameZ (r .bottom) (r .top)) (sameZ (r .left) (r .right))
 
--- the first n rectangles of a layer are such segments
-abbrev pub allLie : (level : Bool) → ℕ → (ℕ → Rect) → Bool
-allLie level n rect = holdsBelow (λ p. lies level (rect p)) n
-
--- all of layer i, counted from 0
+-- all rectangles of layer i, counted from 0, are such segments
 abbrev pub layerLies : (level : Bool) → List Layer → ℕ → Bool
-layerLies level ls i = allLie level (layerAt ls i .size) (layerAt ls i .rect)
+layerLies level ls i = let l = layerAt ls i in holdsBelow (λ p. lies level (l .rect p)) (l .size)
 
--- 16 does not apply: layer k − 1 holds horizontal segments, layer k vertical ones
+-- the drawn half of check 16, whose other half is `unwidened`: layer k − 1 holds horizontal segments, layer k vertical ones
 unfoldable pub segmented : List Layer → Bool
 segmented ls = layerLies true ls (length ls - 2) && layerLies false ls (length ls - 1)
 
@@ -64,4 +61,4 @@ abbrev pub countOf : List Layer → List (List ℕ) → ℕ → ℕ
 countOf ls rows class = length (keep (λ row. eqb (classIn ls row) class) rows)
 
 abbrev pub classCounts : List Layer → List (List ℕ) → List ℕ
-classCounts ls rows = each (λ class. countOf ls rows class ∷ []) 0 17
+classCounts ls rows = upto (countOf ls rows) 0 17

@@ -53,7 +53,8 @@ ifSo t n ns = cond t (n ∷ ns) ns
 abbrev pub numbersFrom : (h v : Rect) (j : ℕ) → List Rect → List ℕ
 numbersFrom h v j [] = []
 numbersFrom h v j (r ∷ rs) =
-    ifSo (coversFirst r h) (4 * j + 1) (ifSo (coversLast r h) (4 * j + 2) (ifSo (coversFirst r v) (4 * j + 3) (ifSo (coversLast r v) (4 * j + 4) (numbersFrom h v (suc j) rs))))
+    ifSo (coversFirst r h) (4 * j + 1) (ifSo (coversLast r h) (4 * j + 2)
+    (ifSo (coversFirst r v) (4 * j + 3) (ifSo (coversLast r v) (4 * j + 4) (numbersFrom h v (suc j) rs))))
 
 -- the smallest of n and the others
 abbrev pub smallestOf : ℕ → List ℕ → ℕ

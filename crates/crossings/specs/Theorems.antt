@@ -8,13 +8,17 @@ use lib.IntN.{ℤ}
 use lib.ListN.{length, getD}
 use Rattle.geometry.specs.declared.Rect.{Rect}
 use Rattle.geometry.specs.Rectangles.{In}
+use Rattle.geometry.specs.Theorems.{Meet}
 use Rattle.plan.specs.declared.Shape.{Shape}
-use Rattle.plan.specs.Plan.{layersOf, sizesOf, grown, layers, planCause, Typed}
+use Rattle.plan.specs.Causes.{Check, Passed}
+use Rattle.plan.specs.Plan.{layersOf, sizesOf, layers, Typed}
+use Rattle.plan.specs.Theorems.{PlanChecks}
 use Rattle.plan.specs.Spots.{layerAt}
 use Rattle.join.specs.Join.{rects, commonOf}
-use Rattle.join.specs.Table.{tableOf}
+use Rattle.join.specs.Table.{planTable}
+use Rattle.crossings.specs.Crossings.{covers}
+use Rattle.crossings.specs.declared.ClassAnswer.{ClassAnswer}
 use Rattle.crossings.specs.declared.ClassAnswer.the-variants.{Refused, NoRow, Class}
-use Rattle.crossings.specs.Crossings.{covers, classIn}
 use Rattle.crossings.specs.ClassCall.{crossingCause, classCall, classValues}
 
 -- ---- 02's words
@@ -24,59 +28,58 @@ ofLayer rs i = getD rs (i - 1) (commonOf [])
 
 -- "A segment crosses a rectangle when they meet and the rectangle covers neither endpoint."
 pub record Crosses (s r : Rect) : Type 0 where
-  pub meet : (x : ℤ) × (y : ℤ) × (In x y s × In x y r)
+  pub meet : Meet s r
   pub first : In (s .left) (s .bottom) r → ⊥
   pub last : In (s .right) (s .top) r → ⊥
 
--- "for layer i, 4(i − 1) + 1 when its rectangle covers the left end, + 2 the right end, + 3 the bottom end, + 4 the top end"; i is from 1 to k − 2
-pub data Numbered (rs : List Rect) : ℕ → Type 0 where
-  left : (i : ℕ) → 1 ≤ i → i + 2 ≤ length rs → In (ofLayer rs (length rs - 1) .left) (ofLayer rs (length rs - 1) .bottom) (ofLayer rs i) → Numbered rs (4 * (i - 1) + 1)
-  right : (i : ℕ) → 1 ≤ i → i + 2 ≤ length rs → In (ofLayer rs (length rs - 1) .right) (ofLayer rs (length rs - 1) .top) (ofLayer rs i) → Numbered rs (4 * (i - 1) + 2)
-  bottom : (i : ℕ) → 1 ≤ i → i + 2 ≤ length rs → In (ofLayer rs (length rs) .left) (ofLayer rs (length rs) .bottom) (ofLayer rs i) → Numbered rs (4 * (i - 1) + 3)
-  top : (i : ℕ) → 1 ≤ i → i + 2 ≤ length rs → In (ofLayer rs (length rs) .right) (ofLayer rs (length rs) .top) (ofLayer rs i) → Numbered rs (4 * (i - 1) + 4)
+-- the ends that r covers of the horizontal segment h and of the vertical one v: "4(i − 1) + 1 when its rectangle covers the left end, + 2 the right end, + 3
+-- the bottom end, + 4 the top end"
+pub data Covered (h v r : Rect) : ℕ → Type 0 where
+  left : In (h .left) (h .bottom) r → Covered h v r 1
+  right : In (h .right) (h .top) r → Covered h v r 2
+  bottom : In (v .left) (v .bottom) r → Covered h v r 3
+  top : In (v .right) (v .top) r → Covered h v r 4
 
--- the class of a row of these k rectangles
-pub record IsClass (rs : List Rect) (class : ℕ) : Type 0 where
+-- ... "for layer i", from 1 to k − 2
+pub data Numbered (rs : List Rect) (h v : Rect) : ℕ → Type 0 where
+  numbered : (i : ℕ) → 1 ≤ i → i + 2 ≤ length rs → {e : ℕ} → Covered h v (ofLayer rs i) e → Numbered rs h v (4 * (i - 1) + e)
+
+-- the class of a row of these k rectangles, of which h and v are the segments
+pub record IsClass (rs : List Rect) (h v : Rect) (class : ℕ) : Type 0 where
   -- "class 0 where both segments cross every rectangle of layers 1 to k − 2"
-  pub none : (class ≡ 0) ↔ ((i : ℕ) → 1 ≤ i → i + 2 ≤ length rs → Crosses (ofLayer rs (length rs - 1)) (ofLayer rs i) × Crosses (ofLayer rs (length rs)) (ofLayer rs i))
+  pub none : (class ≡ 0) ↔ ((i : ℕ) → 1 ≤ i → i + 2 ≤ length rs → Crosses h (ofLayer rs i) × Crosses v (ofLayer rs i))
   -- "Otherwise its class is the smallest of these"
-  pub one : (class ≡ 0 → ⊥) → Numbered rs class
-  pub smallest : (n : ℕ) → Numbered rs n → class ≤ n
+  pub one : (class ≡ 0 → ⊥) → Numbered rs h v class
+  pub smallest : (n : ℕ) → Numbered rs h v n → class ≤ n
   -- at most 4(k − 2)
   pub most : class ≤ 4 * (length rs - 2)
 
 -- ---- the checks
+-- each rectangle of layer i, from 0, is such a segment as drawn. 02, Q-4: "a margin above 0 on a segment layer is 16", also where it is empty
+abbrev pub LayerLies : Shape → List ℤ → (i : ℕ) → (Rect → Type 0) → Type 0
+LayerLies s cells i Lies =
+    let l = layerAt (layersOf (sizesOf s) cells) i in (getD (s .margins) i 0 ≡ 0) × ((p : ℕ) → p < l .size → Lies (l .rect p))
+
 -- "bottom and top" do not differ "in layer k − 1", nor "left and right in layer k"
-pub record Segments (s : Shape) (cells : List ℤ) : Type 0 where
-  pub horizontal : (p : ℕ) → let l = layerAt (layersOf (sizesOf s) cells) (s .k - 2) in p < l .size → l .rect p .bottom ≡ l .rect p .top
-  pub vertical : (p : ℕ) → let l = layerAt (layersOf (sizesOf s) cells) (s .k - 1) in p < l .size → l .rect p .left ≡ l .rect p .right
-  -- 02, Q-4: "a margin above 0 on a segment layer is 16", also where it is empty
-  pub level : getD (s .margins) (s .k - 2) 0 ≡ 0
-  pub upright : getD (s .margins) (s .k - 1) 0 ≡ 0
+abbrev pub Segments : Shape → List ℤ → Type 0
+Segments s cells = LayerLies s cells (s .k - 2) (λ r. r .bottom ≡ r .top) × LayerLies s cells (s .k - 1) (λ r. r .left ≡ r .right)
 
--- each cause applies in exactly the stated case, and where no earlier one does (1 to 4 and 17: `Plans` of the crate plan)
-pub record CrossingCauses (s : Shape) (cells : List ℤ) : Type 0 where
-  pub none : (crossingCause s cells ≡ 0) ↔ ((planCause s cells ≡ 0) × (3 ≤ s .k) × Segments s cells)
-  pub others : (n : ℕ) → 0 < n → (n ≡ 15 → ⊥) → (n ≡ 16 → ⊥) → (crossingCause s cells ≡ n) ↔ (planCause s cells ≡ n)
-  pub fifteen : (crossingCause s cells ≡ 15) ↔ ((planCause s cells ≡ 0) × (s .k < 3))
-  pub sixteen : (crossingCause s cells ≡ 16) ↔ ((planCause s cells ≡ 0) × (3 ≤ s .k) × (Segments s cells → ⊥))
-
--- ---- the class call
-pub record ClassesHold (s : Shape) (cells : List ℤ) : Type 0 where
-  -- of a row of the table its class, which is one number
-  pub row : (row : List ℕ) → List·Memᴰ row (tableOf (sizesOf s) (grown s cells))
-      → (classCall s cells row ≡ Class (classIn (layers s cells) row)) × IsClass (rects (layers s cells) row) (classIn (layers s cells) row) × (length (rects (layers s cells) row) ≡ s .k)
-  -- "17 where they name no row"
-  pub others : (row : List ℕ) → (List·Memᴰ row (tableOf (sizesOf s) (grown s cells)) → ⊥) → classCall s cells row ≡ NoRow
+-- ---- the class call: what it answers for these cells, whose rectangles are rs
+pub record ClassHolds (s : Shape) (cells : List ℤ) (row : List ℕ) (rs : List Rect) (answer : ClassAnswer) : Type 0 where
+  -- of a row of the table its class; its segments are those of layers k − 1 and k
+  pub class : List·Memᴰ row (planTable s cells)
+      → (class : ℕ) × (answer ≡ Class class) × IsClass rs (ofLayer rs (s .k - 1)) (ofLayer rs (s .k)) class × (length rs ≡ s .k)
+  pub others : (List·Memᴰ row (planTable s cells) → ⊥) → answer ≡ NoRow
 
 pub record Crossings : Type 0 where
   -- a rectangle covers exactly the points that lie in it
   pub covers : (r : Rect) (x y : ℤ) → (covers r x y ≡ true) ↔ In x y r
-  pub causes : (s : Shape) (cells : List ℤ) → Typed s → CrossingCauses s cells
-  pub classes : (s : Shape) (cells : List ℤ) → Typed s → crossingCause s cells ≡ 0 → ClassesHold s cells
-  -- a refusal has its number
-  pub refused : (s : Shape) (cells : List ℤ) (n : ℕ) → crossingCause s cells ≡ suc n → (row : List ℕ) → classCall s cells row ≡ Refused (suc n)
-  -- the number and the class of each answer
-  pub refusals : (n : ℕ) → classValues (Refused n) ≡ record { number = n; class = 0 }
-  pub none : classValues NoRow ≡ record { number = 0; class = 17 }
-  pub told : (c : ℕ) → classValues (Class c) ≡ record { number = 0; class = c }
+  -- "fewer than three layers, 15", then 16, "both after 4, in that order"
+  pub causes : (s : Shape) (cells : List ℤ) → Typed s → PlanChecks s cells (Check 15 (3 ≤ s .k) (Check 16 (Segments s cells) Passed)) (crossingCause s cells)
+  pub refused : (s : Shape) (cells : List ℤ) (row : List ℕ) (n : ℕ) → crossingCause s cells ≡ suc n
+      → classCall s cells row ≡ Refused (suc n)
+  pub classes : (s : Shape) (cells : List ℤ) → Typed s → crossingCause s cells ≡ 0
+      → (row : List ℕ) → ClassHolds s cells row (rects (layers s cells) row) (classCall s cells row)
+  -- the number and the class of each answer: "17 where they name no row"
+  pub values : (n : ℕ) → (classValues (Refused n) ≡ record { number = n; class = 0 }) × (classValues NoRow ≡ record { number = 0; class = 17 })
+      × (classValues (Class n) ≡ record { number = 0; class = n })

@@ -6,7 +6,7 @@ use Prim.Native.Nat.{ℕ, _≤_, _<_}
 use native.Mathlib.Omega.{arith}
 use lib.Dec.{T, eqb, leb}
 use borrow.Author.Tests.{leb-true, eqb-true, le-leb, ne-eqb, lt-leb}
-use Rattle.lists.proofs.Tests.{never-true, both, total}
+use Rattle.lists.proofs.Tests.{never-true, both, and-true, same-test, total}
 use Rattle.decimal.specs.declared.Kind.{Kind}
 use Rattle.decimal.specs.declared.Kind.the-variants.{Minus, Zero, Digit, Tab, End, Other}
 use Rattle.decimal.specs.Bytes.{kindOf, isDigit}
@@ -67,3 +67,14 @@ digit-is Other b e h = absurd (subst T (sym e) tt)
 
 pub digit-no : (b : ℕ) → ((48 ≤ b) × (b ≤ 57) → ⊥) → isDigit (kindOf b) ≡ false
 digit-no b h = never-true (isDigit (kindOf b)) (λ e. h (digit-is (kindOf b) b e (kind-is b)))
+
+-- the bytes 48 to 57 are the digits
+pub digit-kind : (b : ℕ) → (leb 48 b && leb b 57) ≡ isDigit (kindOf b)
+digit-kind b =
+    same-test (leb 48 b && leb b 57) (isDigit (kindOf b))
+    (λ e. let h = both (leb 48 b) (leb b 57) e in digit-yes b (leb-true 48 b (h .0)) (leb-true b 57 (h .1)))
+    (λ e. let h = digit-is (kindOf b) b e (kind-is b) in and-true (leb 48 b) (leb b 57) (le-leb 48 b (h .0)) (le-leb b 57 (h .1)))
+
+-- another byte is no digit
+pub other : Other ≡ Digit → ⊥
+other e = subst T (sym (ap isDigit e)) tt

@@ -7,9 +7,10 @@ use Prim.Native.Nat.{ℕ, zero, suc, _+_, _-_, _*_, _^_, _≤_, _<_}
 use native.Mathlib.Nat.{pow-suc}
 use native.Mathlib.Numerals.{add-one}
 use native.Mathlib.Omega.{arith}
-use lib.IntN.{ℤ, pos}
+use lib.IntN.{ℤ, pos, negℤ}
 use lib.ListN.{length, getD, drop, length-drop, drop-of-length-le, List·getD-eq-default}
 use lib.Seq.{drop-cons, getD-drop}
+use borrow.Author.Tests.{le-leb}
 use Rattle.lists.proofs.Tests.{clash, total}
 use Rattle.decimal.specs.Numerals.{mostDigits}
 use Rattle.decimal.specs.declared.Digits.{Digits}
@@ -17,11 +18,11 @@ use Rattle.decimal.specs.declared.Kind.{Kind}
 use Rattle.decimal.specs.declared.Kind.the-variants.{Minus, Zero, Digit, Tab, End, Other}
 use Rattle.decimal.specs.declared.Number.the-variants.{Value, Bad}
 use Rattle.decimal.specs.Bytes.{kindOf, isDigit}
-use Rattle.decimal.specs.Reading.{Reading, more, afterMinus, magnitude, numberAt, number}
-use Rattle.decimal.specs.Places.{isMinus, MoreFrom, placed, numberFrom, sign, zeroAt}
+use Rattle.decimal.specs.Reading.{Reading, more, magnitude, number}
+use Rattle.decimal.specs.Places.{afterMinus, numberAt, isMinus, MoreFrom, placed, numberFrom, sign, zeroAt}
 use Rattle.decimal.proofs.Powers.{powers}
 use Rattle.decimal.proofs.Bytes.{digit-is, kind-is}
-use Rattle.decimal.proofs.Reading.{stop}
+use Rattle.decimal.proofs.Reading.{stop, number-kind, magnitude-kind}
 
 -- a byte stands at i
 pub at-byte : (s : List ℕ) (i : ℕ) → i < length s → drop i s ≡ getD s i 0 ∷ drop (i + 1) s
@@ -59,7 +60,7 @@ more-one : (s : List ℕ) (value i f : ℕ) → 0 < f → Next s i → more f va
 more-one s value i zero h n = absurd (omega arith)
 more-one s value i (suc f) h n =
     let z : suc f - 1 ≡ f = omega arith in
-    rw (at-byte s i (n .inside), n .yes, z)
+    rw (at-byte s i (n .inside), le-leb 48 (getD s i 0) (n .low), le-leb (getD s i 0) 57 (n .high), z)
 
 pub one-more : (s : List ℕ) (at first value i f : ℕ) → 0 < f → Next s i → Going s at first value i f
     → Going s at first (value * 10 + (getD s i 0 - 48)) (i + 1) (f - 1)
@@ -114,20 +115,20 @@ none-read false n b t = (refl, refl, refl)
 
 -- the byte at i, or that there is none, by its kind
 number-at : (s : List ℕ) (i : ℕ) (k : Kind) → kindOf (getD s i 0) ≡ k → number (drop i s) ≡ numberAt k (getD s i 0) (drop (i + 1) s)
-unfolding number kindOf
+unfolding kindOf
 number-at s i k e = go (total (length s) i)
   where
     go : (length s ≤ i) ⊎ (i < length s) → number (drop i s) ≡ numberAt k (getD s i 0) (drop (i + 1) s)
-    go (inl h) = rw (sym e, drop-of-length-le s {i = i} h, List·getD-eq-default s 0 {n = i} h)
-    go (inr h) = rw (sym e, at-byte s i h)
+    go (inl h) = rw (sym e, drop-of-length-le s {i = i} h, List·getD-eq-default s 0 {n = i} h) (unfold number in refl)
+    go (inr h) = rw (sym e, at-byte s i h) (number-kind (getD s i 0) (drop (i + 1) s))
 
-magnitude-at : (s : List ℕ) (i : ℕ) (k : Kind) → kindOf (getD s i 0) ≡ k → magnitude (drop i s) ≡ afterMinus k (getD s i 0) (drop (i + 1) s)
+magnitude-at : (s : List ℕ) (i : ℕ) (k : Kind) → kindOf (getD s i 0) ≡ k → magnitude (λ n. negℤ (pos n)) (drop i s) ≡ afterMinus k (getD s i 0) (drop (i + 1) s)
 unfolding kindOf
 magnitude-at s i k e = go (total (length s) i)
   where
-    go : (length s ≤ i) ⊎ (i < length s) → magnitude (drop i s) ≡ afterMinus k (getD s i 0) (drop (i + 1) s)
+    go : (length s ≤ i) ⊎ (i < length s) → magnitude (λ n. negℤ (pos n)) (drop i s) ≡ afterMinus k (getD s i 0) (drop (i + 1) s)
     go (inl h) = rw (sym e, drop-of-length-le s {i = i} h, List·getD-eq-default s 0 {n = i} h)
-    go (inr h) = rw (sym e, at-byte s i h)
+    go (inr h) = rw (sym e, at-byte s i h) (magnitude-kind (getD s i 0) (drop (i + 1) s))
 
 minus-is : (k : Kind) → isMinus k ≡ true → k ≡ Minus
 minus-is Minus e = refl
@@ -146,7 +147,7 @@ pub begins : (s : List ℕ) (at : ℕ) (minus : Bool) (i : ℕ) (k : Kind) → m
     → placed (length s) (after minus k (getD s i 0) (drop (i + 1) s)) ≡ numberFrom s at
 unfolding numberFrom
 begins s at minus i k m (inl h) e =
-    rw (h .0) (ap (placed (length s)) (sym (number-at s at Minus (minus-is (kindOf (getD s at 0)) (sym m ∙ h .0)) ∙ (ap (λ (j : ℕ). magnitude (drop j s)) (sym (h .1)) ∙ magnitude-at s i k e))))
+    rw (h .0) (ap (placed (length s)) (sym (number-at s at Minus (minus-is (kindOf (getD s at 0)) (sym m ∙ h .0)) ∙ (ap (λ (j : ℕ). magnitude (λ n. negℤ (pos n)) (drop j s)) (sym (h .1)) ∙ magnitude-at s i k e))))
 begins s at minus i k m (inr h) e =
     rw (h .0) (ap (placed (length s)) (sym (ap (λ (j : ℕ). number (drop j s)) (sym (h .1)) ∙ number-at s i k e)))
 

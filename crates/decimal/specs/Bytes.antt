@@ -1,4 +1,5 @@
--- The kinds of bytes that a number's reader tells apart. 01: "minus, zero, 1 to 9, tab, line end, anything else"
+-- The kinds of bytes that the code tells apart where it reads a number; no public call's contract cites them. 01: "minus, zero, 1 to 9, tab, line end,
+-- anything else"
 use mathlib.Core.Bool.{Bool, true, false, cond, _&&_}
 use Prim.Native.Nat.{ℕ}
 use lib.Dec.{eqb, leb}

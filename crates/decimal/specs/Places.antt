@@ -12,7 +12,26 @@ use Rattle.decimal.specs.declared.Number.{Number}
 use Rattle.decimal.specs.declared.Number.the-variants.{Value, Bad}
 use Rattle.decimal.specs.declared.Digits.{Digits}
 use Rattle.decimal.specs.Numerals.{mostDigits}
-use Rattle.decimal.specs.Reading.{Reading, more, number}
+use Rattle.decimal.specs.Reading.{Reading, more, magnitude, number}
+
+-- ---- a number by the kinds of its bytes, as the code reads it
+-- behind a minus, at the byte b of this kind
+abbrev pub afterMinus : Kind → ℕ → List ℕ → Reading ℤ
+afterMinus Minus b t = none
+afterMinus Zero b t = none
+afterMinus Digit b t = let m = more (mostDigits - 1) (b - 48) t in some (negℤ (pos (m .0)), m .1)
+afterMinus Tab b t = none
+afterMinus End b t = none
+afterMinus Other b t = none
+
+-- at the byte b of this kind
+abbrev pub numberAt : Kind → ℕ → List ℕ → Reading ℤ
+numberAt Minus b t = magnitude (λ n. negℤ (pos n)) t
+numberAt Zero b t = some (pos 0, t)
+numberAt Digit b t = let m = more (mostDigits - 1) (b - 48) t in some (pos (m .0), m .1)
+numberAt Tab b t = none
+numberAt End b t = none
+numberAt Other b t = none
 
 -- a minus
 abbrev pub isMinus : Kind → Bool

@@ -22,12 +22,13 @@ ghost use lib.ListN.{length, take, drop};
 ghost use Rattle.plan.specs.Plan.{rectAt, layersOf};
 ghost use Rattle.plan.specs.Frames.{Framed};
 ghost use Rattle.join.specs.Join.{rects};
-ghost use Rattle.rows.specs.RowCall.{fits, rowCall, commonCall};
+ghost use Rattle.rows.specs.RowCall.{fits, rowCall, rowValues, commonCall, commonValues};
 ghost use Rattle.rows.specs.Grounds.{takeIn, sharedBy, groundOf, rowNamed, planNamed};
 
 // What the lent cells name in the table of a plan.
 pub fn row(shape: Shape, cells: &[i32], places: &[u32]) -> RowAnswer
-    ensures { λ r. ⌜ r ≡ rowCall shape (now (cells .entry)) (now (places .entry)) ⌝ }
+    ensures answer { λ r. ⌜ r ≡ rowCall shape (now (cells .entry)) (now (places .entry)) ⌝ }
+    ensures values { λ r. ⌜ rowValues r ≡ rowValues (rowCall shape (now (cells .entry)) (now (places .entry))) ⌝ }
 {
     match plan_named(shape, cells, places) {
         Named::Refused(cause) => RowAnswer::Refused(cause),
@@ -38,7 +39,8 @@ pub fn row(shape: Shape, cells: &[i32], places: &[u32]) -> RowAnswer
 
 // The common ground of the row that the lent cells name in the table of a plan.
 pub fn row_common(shape: Shape, cells: &[i32], places: &[u32]) -> CommonAnswer
-    ensures { λ r. ⌜ r ≡ commonCall shape (now (cells .entry)) (now (places .entry)) ⌝ }
+    ensures answer { λ r. ⌜ r ≡ commonCall shape (now (cells .entry)) (now (places .entry)) ⌝ }
+    ensures values { λ r. ⌜ commonValues r ≡ commonValues (commonCall shape (now (cells .entry)) (now (places .entry))) ⌝ }
 {
     match plan_named(shape, cells, places) {
         Named::Refused(cause) => CommonAnswer::Refused(cause),

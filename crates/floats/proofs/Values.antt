@@ -15,7 +15,7 @@ use Rattle.lists.proofs.Tests.{total}
 use Rattle.geometry.proofs.Integers as Integers
 use Rattle.geometry.proofs.Integers.{zarith, neg-law}
 use Rattle.floats.specs.Values.{exact, upDiv, floorOf, ceilOf}
-use Rattle.floats.specs.Theorems.{Finite, AtMost, more, fewer, under, IsFloor, IsCeil}
+use Rattle.floats.specs.Theorems.{Finite, AtMost, IsFloor, IsCeil}
 
 pub so : (b : Bool) → b ≡ true → T b
 so b e = subst T (sym e) tt
@@ -53,7 +53,7 @@ both-zero a b t = go (eqb a b) (eqb→eq a b) (eqb a 0) (eqb→eq a 0) t
     go true f false g t = absurd t
     go false f q g t = absurd t
 
-le→sides : (s t : Bool) (a b : ℕ) → T (below s a t b || level s a t b) → plus s a + less t b ≤ plus t b + less s a
+pub le→sides : (s t : Bool) (a b : ℕ) → T (below s a t b || level s a t b) → plus s a + less t b ≤ plus t b + less s a
 le→sides false false a b t = omega (arith, le-or a b true t)
 le→sides false true a b t = omega (arith, both-zero a b t)
 le→sides true false a b t = omega arith
@@ -64,7 +64,7 @@ le→sides true true a b t = go (ltb b a) (ltb→lt b a) (eqb a b) (eqb→eq a b
     go false f true g t = omega (arith, g tt)
     go false f false g t = absurd t
 
-sides→le : (s t : Bool) (a b : ℕ) → plus s a + less t b ≤ plus t b + less s a → T (below s a t b || level s a t b)
+pub sides→le : (s t : Bool) (a b : ℕ) → plus s a + less t b ≤ plus t b + less s a → T (below s a t b || level s a t b)
 sides→le false false a b h = or-le a b (omega arith)
 sides→le false true a b h = and-i (eqb a b) (eqb a 0) (eqb-of a b (omega arith)) (eqb-of a 0 (omega arith))
 sides→le true false a b h = go (ltb 0 (a + b)) (nltb→le 0 (a + b))
@@ -79,6 +79,22 @@ sides→le true true a b h = go (ltb b a) (nltb→le b a)
     go false f = and-i (eqb a b) true (eqb-of a b (omega (arith, f tt))) tt
 
 -- ---- the order by fractions
+-- ---- a finite float is `more` less `fewer`, one of which is 0, over `under`
+abbrev pub more : Float → ℕ
+more nan = 0
+more (inf s) = 0
+more (fin s m e) = cond s 0 (m * up e)
+
+abbrev pub fewer : Float → ℕ
+fewer nan = 0
+fewer (inf s) = 0
+fewer (fin s m e) = cond s (m * up e) 0
+
+abbrev pub under : Float → ℕ
+under nan = 1
+under (inf s) = 1
+under (fin s m e) = down e
+
 pub under-pos : (x : Float) → 0 < under x
 under-pos nan = omega arith
 under-pos (inf s) = omega arith

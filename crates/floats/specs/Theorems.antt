@@ -1,6 +1,6 @@
 -- Theorem: what is promised of exact values, for all floats. Proved in proofs/Theorems.antt.
 use mathlib.Core.Path.{_≡_}
-use mathlib.Core.Bool.{Bool, cond}
+use mathlib.Core.Bool.{Bool, true, false, cond}
 use mathlib.Core.Logic.{_↔_}
 use Prim.Native.Nat.{ℕ, suc, _+_, _*_, _≤_}
 use lib.IntN.{ℤ, pos, negsuc}
@@ -15,22 +15,6 @@ Finite x = T (finite x)
 -- x ≤ y
 abbrev pub AtMost : Float → Float → Type 0
 AtMost x y = T (le x y)
-
--- ---- a finite float is `more` less `fewer`, one of which is 0, over `under`
-abbrev pub more : Float → ℕ
-more nan = 0
-more (inf s) = 0
-more (fin s m e) = cond s 0 (m * up e)
-
-abbrev pub fewer : Float → ℕ
-fewer nan = 0
-fewer (inf s) = 0
-fewer (fin s m e) = cond s (m * up e) 0
-
-abbrev pub under : Float → ℕ
-under nan = 1
-under (inf s) = 1
-under (fin s m e) = down e
 
 -- ---- 02: "taken down", "taken up"
 -- z is the greatest whole number not above x
@@ -47,10 +31,11 @@ pub record ExactValues : Type 0 where
   -- all floats but nan and the infinities have a value
   pub values : (x : Float) → Finite x ↔ ((x ≡ nan → ⊥) × ((s : Bool) → x ≡ inf s → ⊥))
   -- that of a whole number is the number
-  pub above : (n : ℕ) → (more (exact (pos n)) ≡ n) × (fewer (exact (pos n)) ≡ 0) × (under (exact (pos n)) ≡ 1)
-  pub below : (n : ℕ) → (more (exact (negsuc n)) ≡ 0) × (fewer (exact (negsuc n)) ≡ suc n) × (under (exact (negsuc n)) ≡ 1)
-  -- the order of finite floats is that of their values, each side times both lower numbers
-  pub order : (x y : Float) → Finite x → Finite y → AtMost x y ↔ (more x * under y + fewer y * under x ≤ more y * under x + fewer x * under y)
+  pub whole : (n : ℕ) → (exact (pos n) ≡ fin false n (pos 0)) × (exact (negsuc n) ≡ fin true (suc n) (pos 0)) × (up (pos 0) ≡ 1) × (down (pos 0) ≡ 1)
+  -- the order of finite floats is that of their values, m times 2 ^ e and n times 2 ^ f, below 0 where s and t are true; a and b are these times both lower
+  -- numbers (specs/Values.antt)
+  pub order : (s t : Bool) (m n : ℕ) (e f : ℤ) → let a = m * up e * down f in let b = n * up f * down e in
+      AtMost (fin s m e) (fin t n f) ↔ (cond s 0 a + cond t b 0 ≤ cond t 0 b + cond s a 0)
   -- whole numbers keep their order
   pub wholes : (a b : ℤ) → AtMost (exact a) (exact b) ↔ (a ≤ℤ b)
   pub floor : (x : Float) → Finite x → IsFloor x (floorOf x)

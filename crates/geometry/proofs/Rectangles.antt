@@ -12,7 +12,7 @@ use Rattle.geometry.specs.declared.Kind.{Kind}
 use Rattle.geometry.specs.declared.Meeting.{Meeting}
 use Rattle.geometry.specs.declared.Meeting.the-variants.{Apart, Common}
 use Rattle.geometry.specs.Rectangles.{In, maxZ, minZ, common, nonempty, meets, kindOf, meeting, reach, extent, between, held, inRange, inExtent, areaOf, mostArea, grownBy}
-use Rattle.geometry.specs.Theorems.{Ranged}
+use Rattle.geometry.specs.Theorems.{Ranged, Growing}
 use Rattle.geometry.proofs.Integers.{up, dn, zarith, neg-law, one-side, size-law, add-law, sub-law}
 use Rattle.geometry.proofs.Machine.{rect-eq}
 
@@ -226,14 +226,12 @@ area-held n r e =
     let h = held-is (pos n) r e in
     mul-le-mul (side-small n _ _ (h .left) (h .right) (h .across)) (side-small n _ _ (h .bottom) (h .top) (h .upward))
 
-pub range-area : (r : Rect) → inRange r ≡ true → areaOf r ≤ 400000000000000
-range-area r e = area-held 10000000 r e
-
 pub extent-area : (r : Rect) → inExtent r ≡ true → areaOf r ≤ mostArea
 extent-area r e = area-held 10050000 r e
 
 -- ---- margins
-pub grown-sides : (m : ℕ) (r : Rect) → let g = grownBy m r in (g .left +ℤ pos m ≡ r .left) × (g .bottom +ℤ pos m ≡ r .bottom) × (g .right ≡ r .right +ℤ pos m) × (g .top ≡ r .top +ℤ pos m)
+-- each side is moved out by the margin
+grown-sides : (m : ℕ) (r : Rect) → let g = grownBy m r in (g .left +ℤ pos m ≡ r .left) × (g .bottom +ℤ pos m ≡ r .bottom) × (g .right ≡ r .right +ℤ pos m) × (g .top ≡ r .top +ℤ pos m)
 unfolding grownBy
 grown-sides m r = (back (r .left), back (r .bottom), refl, refl)
   where
@@ -270,3 +268,6 @@ grown-held n m r e h =
   where
     apart : (a b : ℤ) → a ≤ℤ b → (a -ℤ pos m) ≤ℤ (b +ℤ pos m)
     apart a b l = omega (zarith, sub-law a (pos m), add-law b (pos m))
+
+pub grown-growing : (m : ℕ) (r : Rect) → Growing m r (grownBy m r)
+grown-growing m r = let s = grown-sides m r in record { left = s .0; bottom = s .1; right = s .2; top = s .3; extent = grown-held 10000000 m r }

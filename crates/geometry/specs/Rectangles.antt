@@ -36,7 +36,7 @@ nonempty r = leZ (r .left) (r .right) && leZ (r .bottom) (r .top)
 unfoldable pub meets : Rect → Rect → Bool
 meets a b = nonempty (common a b)
 
--- 02, Q-7: "its kind: G with both sides above 0, E with exactly one side 0, P with both 0" (specs/Theorems.antt, `Kinds`)
+-- 02, Q-7: "its kind: G with both sides above 0, E with exactly one side 0, P with both 0" (specs/Theorems.antt, `sides`)
 unfoldable pub kindOf : Rect → Kind
 kindOf r = cond (ltZ (r .left) (r .right)) (cond (ltZ (r .bottom) (r .top)) Ground Edge) (cond (ltZ (r .bottom) (r .top)) Edge Point)
 
@@ -86,7 +86,7 @@ grownBy m r =
     record { left = r .left -ℤ pos m; bottom = r .bottom -ℤ pos m; right = r .right +ℤ pos m; top = r .top +ℤ pos m }
 
 -- ---- area
--- 01: "width times its height in square millimetres" (specs/Theorems.antt, `exact`). Of a rectangle with its sides the wrong way round, which
+-- 01: "width times its height in square millimetres" (specs/Theorems.antt, `sides`). Of a rectangle with its sides the wrong way round, which
 -- no plan holds, it is the product of how far they lie apart
 unfoldable pub areaOf : Rect → ℕ
 areaOf r = natAbs (r .right -ℤ r .left) * natAbs (r .top -ℤ r .bottom)

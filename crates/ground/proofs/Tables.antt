@@ -8,7 +8,7 @@ use lib.IntN.{ℤ}
 use lib.Signed.{_≤ℤ_}
 use lib.ListN.{length, getD}
 use Rattle.lists.specs.Lists.{All, Pairwise, sum}
-use Rattle.lists.proofs.Lists.{all-of-mem, all-of-map, pairwise-of-map, pairwise-with}
+use Rattle.lists.proofs.Lists.{all-map, all-of-mem, all-of-map, pairwise-of-map, pairwise-with}
 use Rattle.geometry.specs.declared.Rect.{Rect}
 use Rattle.geometry.specs.Rectangles.{extent, held, inExtent}
 use Rattle.geometry.proofs.Integers.{zarith}
@@ -50,8 +50,9 @@ module _ (ns : List ℕ) (cells : List ℤ) (f : Framed ns cells) where
       let v = rects-held b ns cells (f .whole) h in
       all-of-map (λ row. commonOf (rects ours row)) (all-of-mem (tableOf ns cells) (λ row m. row-held b ours (omega (arith, layers-long ns cells, f .some)) v (tables .tables ns cells f .is .sound row m)))
 
-  pub table-ranged : All (λ r. inExtent r ≡ true) (grounds ours (tableOf ns cells))
-  table-ranged = table-held extent (f .ranged)
+  -- of any rows of the table
+  pub rows-ranged : {rows : List (List ℕ)} → All (λ row. List·Memᴰ row (tableOf ns cells)) rows → All (λ r. inExtent r ≡ true) (grounds ours rows)
+  rows-ranged k = all-of-map (λ row. commonOf (rects ours row)) (all-map (λ row m. row-ranged ns cells f row (tables .tables ns cells f .is .sound row m)) k)
 
   guard-left : (row : List ℕ) → List·Memᴰ row (tableOf ns cells) → rectOf ours (guardOf ours row) .left ≡ commonOf (rects ours row) .left
   guard-left row m =

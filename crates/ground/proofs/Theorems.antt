@@ -1,14 +1,13 @@
 -- The promises on ground counted once hold.
-use mathlib.Core.Path.{_≡_, refl, sym, ap, _∙_, subst}
+use mathlib.Core.Path.{_≡_, refl, sym, ap, _∙_}
 use mathlib.Core.Bool.{true}
-use mathlib.Core.Logic.{⊎-elim}
+use mathlib.Core.Logic.{_↔_, ⊎-elim}
 use mathlib.Core.List.{List, [], _∷_, map, List·Memᴰ, List·Memᴰ·head, List·Memᴰ·tail, List·Memᴰ·not-nil, List·Memᴰ·cases-cons, Memᴰ·map}
-use Prim.Native.Nat.{ℕ, _≤_}
+use Prim.Native.Nat.{ℕ}
 use lib.Dec.{T}
 use lib.IntN.{ℤ, pos, negℤ}
 use lib.Signed.{leZ}
-use Rattle.lists.specs.Lists.{All, none-left, _and_, sum}
-use Rattle.lists.proofs.Lists.{pairwise-of-map}
+use Rattle.lists.specs.Lists.{All, none-left, _and_}
 use Rattle.lists.proofs.Kept.{map-map}
 use Rattle.geometry.specs.declared.Rect.{Rect}
 use Rattle.geometry.specs.Rectangles.{extent, areaOf}
@@ -17,10 +16,10 @@ use Rattle.plan.specs.Frames.{Framed}
 use Rattle.join.specs.Join.{rects, commonOf, areaIn}
 use Rattle.join.specs.Table.{tableOf}
 use Rattle.ground.specs.Union.{within, covers, unionOf, grounds}
-use Rattle.ground.specs.Theorems.{Holds, UnionHolds, TableUnion, TableUnions, corners}
+use Rattle.ground.specs.Theorems.{Holds, UnionHolds, RowsUnion, TableUnions, corners}
 use Rattle.ground.proofs.Slabs.{Rises, top, up-to, union-by-cells}
-use Rattle.ground.proofs.Union.{covers-is, is-covers, covered-is, is-covered, same-squares, union-whole, union-old, union-same, union-most, union-apart, union-least, union-bound}
-use Rattle.ground.proofs.Tables.{table-ranged, table-lefts}
+use Rattle.ground.proofs.Union.{covers-is, is-covers, covered-is, is-covered, same-squares, union-whole, union-same, union-most, union-apart, union-least, union-bound}
+use Rattle.ground.proofs.Tables.{rows-ranged}
 
 -- ---- the example, by its lines 0 to 3
 abbrev two : List Rect
@@ -46,6 +45,10 @@ example : unionOf two ≡ 7
 unfolding unionOf covers within
 example = union-by-cells two (negℤ extent) (negℤ extent) lines lines ascend ascend among among
 
+-- neither order nor repetition matters
+pub union-members : (rs ss : List Rect) → ((r : Rect) → List·Memᴰ r rs ↔ List·Memᴰ r ss) → unionOf rs ≡ unionOf ss
+union-members rs ss f = union-same rs ss (same-squares rs ss (λ r. f r .0) (λ r. f r .1))
+
 pub union-holds : UnionHolds
 union-holds = record {
   square = λ x y r. (covers-is x y r, is-covers x y r);
@@ -54,9 +57,7 @@ union-holds = record {
     λ k. is-covered x y rs (k .0) (k .1) (is-covers x y (k .0) (k .2)),
   );
   whole = union-whole;
-  old = union-old;
   settled = union-same;
-  members = λ rs ss f. union-same rs ss (same-squares rs ss (λ r. f r .0) (λ r. f r .1));
   most = union-most;
   apart = union-apart;
   least = union-least;
@@ -79,19 +80,16 @@ module _ (ns : List ℕ) (cells : List ℤ) (f : Framed ns cells) where
   abbrev ours : List Layer
   ours = layersOf ns cells
 
-  table-union : TableUnion ns cells
+  rows-union : (rows : List (List ℕ)) → All (λ row. List·Memᴰ row (tableOf ns cells)) rows → RowsUnion ours rows (grounds ours rows)
   unfolding areaIn
-  table-union = record {
-    ranged = table-ranged ns cells f;
-    lefts = table-lefts ns cells f;
+  rows-union rows k = record {
+    ranged = rows-ranged ns cells f k;
+    areas = row-areas ours rows;
     of-rows = λ x y. (
-      λ e. let k = covered-is x y _ e in row-covers ours (tableOf ns cells) x y (k .0) (k .1) (k .2),
+      λ e. let k = covered-is x y _ e in row-covers ours rows x y (k .0) (k .1) (k .2),
       λ k. is-covered x y _ (commonOf (rects ours (k .0))) (Memᴰ·map (λ row. commonOf (rects ours row)) (k .1)) (is-covers x y _ (k .2)),
     );
-    most = subst (λ (l : List ℕ). unionOf (grounds ours (tableOf ns cells)) ≤ sum l) (row-areas ours (tableOf ns cells)) (union-most _ (table-ranged ns cells f));
-    apart = λ p. union-apart _ (table-ranged ns cells f) (pairwise-of-map (λ row. commonOf (rects ours row)) (λ a b h. h) p) ∙ ap sum (row-areas ours (tableOf ns cells));
-    least = λ row m. union-least _ (table-ranged ns cells f) (commonOf (rects ours row)) (Memᴰ·map (λ row. commonOf (rects ours row)) m);
   }
 
 pub table-unions : TableUnions
-table-unions = record { tables = table-union }
+table-unions = record { tables = rows-union }

@@ -11,11 +11,11 @@ use Rattle.lists.specs.Lists.{All, none-left, _and_, Pairwise, done, _then_, su
 use Rattle.lists.proofs.Tests.{clash, both, and-true, never-true, same-test}
 use Rattle.lists.proofs.Lists.{all-at}
 use Rattle.geometry.specs.declared.Rect.{Rect}
-use Rattle.geometry.specs.Rectangles.{extent, held, inExtent, areaOf}
-use Rattle.geometry.proofs.Integers.{zarith, add-law}
+use Rattle.geometry.specs.Rectangles.{extent, inExtent, areaOf}
+use Rattle.geometry.proofs.Integers.{zarith, add-law, neg-law, one-side}
 use Rattle.geometry.proofs.Rectangles.{held-is}
 use Rattle.ground.specs.Union.{within, covers, covered, one, over, squares, breadth, unionOf}
-use Rattle.ground.specs.Theorems.{Holds}
+use Rattle.ground.specs.Theorems.{Holds, AllHeld, Spans}
 use Rattle.ground.proofs.Sums.{over-same, over-none, over-part, squares-same, squares-least, squares-join, squares-most, squares-bound, interval-all, product-count}
 
 -- ---- a square in a rectangle
@@ -160,22 +160,30 @@ pub all-extent : {rs : List Rect} → All (λ r. inExtent r ≡ true) rs → All
 all-extent none-left = none-left
 all-extent (_and_ {a = r} k ks) = _and_ (in-extent r k) (all-extent ks)
 
-pub union-whole : (rs : List Rect) → All (λ r. inExtent r ≡ true) rs → (a : ℤ) (w : ℕ) (b : ℤ) (h : ℕ)
-    → a ≤ℤ negℤ extent → extent ≤ℤ (a +ℤ pos w) → b ≤ℤ negℤ extent → extent ≤ℤ (b +ℤ pos h) → squares (covered rs) a w b h ≡ unionOf rs
-unfolding unionOf
-union-whole rs ks a w b h p q r s = wider (negℤ extent) breadth (negℤ extent) breadth (all-extent ks) a w b h p q r s
+-- the range from −m to m
+far : (m : ℕ) → (negℤ (pos m) +ℤ pos (2 * m)) ≡ pos m
+far m = omega (zarith, add-law (negℤ (pos m)) (pos (2 * m)), neg-law (pos m), one-side (negℤ (pos m) +ℤ pos (2 * m)))
 
--- the same of a smaller range, if it holds all of them
-in-old : {rs : List Rect} → All (λ r. held (pos 1050000) r ≡ true) rs → All (Inside (negℤ (pos 1050000)) 2100000 (negℤ (pos 1050000)) 2100000) rs
-in-old none-left = none-left
-in-old (_and_ {a = r} k ks) =
-    let h = held-is (pos 1050000) r k in
-    _and_ (record { left = h .left .0; across = h .across; right = h .right .1; bottom = h .bottom .0; upward = h .upward; top = h .top .1 }) (in-old ks)
+in-range : (m : ℕ) {rs : List Rect} → AllHeld m rs → All (Inside (negℤ (pos m)) (2 * m) (negℤ (pos m)) (2 * m)) rs
+in-range m none-left = none-left
+in-range m (_and_ {a = r} k ks) =
+    let h = held-is (pos m) r k in
+    _and_ (record { left = h .left .0; across = h .across; right = rw (far m) (h .right .1); bottom = h .bottom .0; upward = h .upward; top = rw (far m) (h .top .1) }) (in-range m ks)
 
-pub union-old : (rs : List Rect) → All (λ r. held (pos 1050000) r ≡ true) rs → unionOf rs ≡ squares (covered rs) (negℤ (pos 1050000)) 2100000 (negℤ (pos 1050000)) 2100000
+-- any range that has it counts the same
+span-same : (m : ℕ) (rs : List Rect) → AllHeld m rs → (a b : ℤ) (w h : ℕ) → Spans m a w → Spans m b h
+    → squares (covered rs) a w b h ≡ squares (covered rs) (negℤ (pos m)) (2 * m) (negℤ (pos m)) (2 * m)
+span-same m rs ks a b w h p q = wider (negℤ (pos m)) (2 * m) (negℤ (pos m)) (2 * m) (in-range m ks) a w b h (p .0) (rw (far m) (p .1)) (q .0) (rw (far m) (q .1))
+
+all-span : (m : ℕ) → m ≤ 10050000 → Spans m (negℤ extent) breadth
+all-span m h = (omega (zarith, neg-law (pos m), neg-law extent), omega zarith)
+
+pub union-whole : (m : ℕ) → m ≤ 10050000 → (rs : List Rect) → AllHeld m rs → (a b : ℤ) (w h : ℕ) → Spans m a w → Spans m b h → squares (covered rs) a w b h ≡ unionOf rs
 unfolding unionOf
-union-old rs ks =
-    wider (negℤ (pos 1050000)) 2100000 (negℤ (pos 1050000)) 2100000 (in-old ks) (negℤ extent) breadth (negℤ extent) breadth (record { le = tt }) (record { le = tt }) (record { le = tt }) (record { le = tt })
+union-whole m k rs ks a b w h p q = span-same m rs ks a b w h p q ∙ sym (span-same m rs ks (negℤ extent) (negℤ extent) breadth breadth (all-span m k) (all-span m k))
+
+pub union-old : (rs : List Rect) → AllHeld 1050000 rs → unionOf rs ≡ squares (covered rs) (negℤ (pos 1050000)) 2100000 (negℤ (pos 1050000)) 2100000
+union-old rs ks = sym (union-whole 1050000 (omega arith) rs ks (negℤ (pos 1050000)) (negℤ (pos 1050000)) 2100000 2100000 (record { le = tt }, record { le = tt }) (record { le = tt }, record { le = tt }))
 
 pub union-same : (rs ss : List Rect) → ((x y : ℤ) → covered rs x y ≡ covered ss x y) → unionOf rs ≡ unionOf ss
 unfolding unionOf

@@ -1,27 +1,30 @@
--- Theorem: the lines of a plan text, byte by byte, and that a line is read exactly where its bytes stand. Proved in proofs/Theorems.antt.
+-- Theorem: the lines of a plan text, byte by byte, and that a line is read and spelled exactly so. Proved in proofs/Theorems.antt.
 use mathlib.Core.Path.{_≡_}
 use mathlib.Core.List.{List, _∷_, _++_}
 use mathlib.Core.Bool.{true}
-use mathlib.Core.Option.{none, some}
+use mathlib.Core.Option.{some}
 use mathlib.Core.Logic.{_↔_}
 use Prim.Native.Nat.{ℕ}
 use lib.IntN.{ℤ}
 use Rattle.geometry.specs.declared.Rect.{Rect}
-use Rattle.decimal.specs.Numerals.{numeral, short}
+use Rattle.decimal.specs.Theorems.{Spells}
 use Rattle.line.specs.declared.Line.{Line}
 use Rattle.line.specs.declared.Line.the-variants.{Plan, Layer, Rectangle}
 use Rattle.line.specs.Lines.{spellTo, shortLine}
 use Rattle.line.specs.Parsing.{line}
 
--- which bytes are a number is said by `Numbers` (crate decimal)
+-- a text is a line and then the bytes `rest`. 01: "each ended by byte 10, fields parted by byte 9"; which bytes are a number: `Spells` (crate decimal)
+pub data Starts (rest : List ℕ) : Line → List ℕ → Type 0 where
+  -- "PLAN, k": P L A N
+  plan : {a : List ℕ} {k : ℤ} → Spells a k → Starts rest (Plan k) (80 ∷ 76 ∷ 65 ∷ 78 ∷ 9 ∷ (a ++ 10 ∷ rest))
+  -- "LAYER, n_j", and 02, Q-4: a margin "written as a second number on its LAYER line": L A Y E R
+  layer : {a b : List ℕ} {n m : ℤ} → Spells a n → Spells b m → Starts rest (Layer n m) (76 ∷ 65 ∷ 89 ∷ 69 ∷ 82 ∷ 9 ∷ (a ++ 9 ∷ (b ++ 10 ∷ rest)))
+  -- "RECT, left, bottom, right, top": R E C T
+  rect : {a b c d : List ℕ} {r : Rect} → Spells a (r .left) → Spells b (r .bottom) → Spells c (r .right) → Spells d (r .top)
+      → Starts rest (Rectangle r) (82 ∷ 69 ∷ 67 ∷ 84 ∷ 9 ∷ (a ++ 9 ∷ (b ++ 9 ∷ (c ++ 9 ∷ (d ++ 10 ∷ rest)))))
+
 pub record LinesHold : Type 0 where
-  -- "PLAN, k": P L A N, a tab (9), the number, and a line end (10)
-  pub plan : (k : ℤ) (r : List ℕ) → spellTo (Plan k) r ≡ 80 ∷ 76 ∷ 65 ∷ 78 ∷ 9 ∷ (numeral k ++ 10 ∷ r)
-  -- "LAYER, n_j", and 02, Q-4: a margin "written as a second number on its LAYER line"
-  pub layer : (n m : ℤ) (r : List ℕ) → spellTo (Layer n m) r ≡ 76 ∷ 65 ∷ 89 ∷ 69 ∷ 82 ∷ 9 ∷ (numeral n ++ 9 ∷ (numeral m ++ 10 ∷ r))
-  -- "RECT, left, bottom, right, top"
-  pub rect : (b : Rect) (r : List ℕ) → spellTo (Rectangle b) r ≡ 82 ∷ 69 ∷ 67 ∷ 84 ∷ 9 ∷ (numeral (b .left) ++ 9 ∷ (numeral (b .bottom) ++ 9 ∷ (numeral (b .right) ++ 9 ∷ (numeral (b .top) ++ 10 ∷ r))))
-  -- a line of short numbers is read where its bytes stand, and nowhere else
-  pub reads : (t : List ℕ) (l : Line) (r : List ℕ) → (line t ≡ some (l, r)) ↔ ((shortLine l ≡ true) × (t ≡ spellTo l r))
-  -- 02, Q-4: "old LAYER lines are no longer well formed": no line is read where one with a single number stands
-  pub old : (n : ℤ) (r : List ℕ) → short n ≡ true → line (76 ∷ 65 ∷ 89 ∷ 69 ∷ 82 ∷ 9 ∷ (numeral n ++ 10 ∷ r)) ≡ none
+  -- a line is read where its bytes stand, and nowhere else ..
+  pub reads : (t : List ℕ) (l : Line) (rest : List ℕ) → (line t ≡ some (l, rest)) ↔ Starts rest l t
+  -- .. and these are the bytes of its spelling, where its numbers are such as a text may have
+  pub spelled : (t : List ℕ) (l : Line) (rest : List ℕ) → ((shortLine l ≡ true) × (t ≡ spellTo l rest)) ↔ Starts rest l t

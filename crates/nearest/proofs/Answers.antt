@@ -1,7 +1,7 @@
 -- What the call answers, in each of its cases, and the search of a layer.
 use mathlib.Core.Path.{_≡_, refl, sym, ap, _∙_, subst, fun-ext}
 use mathlib.Core.List.{List, [], _∷_}
-use mathlib.Core.Bool.{Bool, true, false, cond, _&&_}
+use mathlib.Core.Bool.{Bool, true, false, cond}
 use mathlib.Core.Logic.{_⊎_, inl, inr}
 use Prim.Native.Nat.{ℕ, zero, suc, _+_, _-_, _*_, _≤_, _<_}
 use native.Mathlib.Numerals.{add-one}
@@ -14,7 +14,7 @@ use borrow.Author.Tests.{leb-true, leb-false, le-leb, lt-leb}
 use mir.Val.{boolByte}
 use Rattle.lists.specs.Lists.{sum, each}
 use Rattle.lists.proofs.Lists.{all-getD}
-use Rattle.lists.proofs.Tests.{as-number, clash, total}
+use Rattle.lists.proofs.Tests.{as-number, total}
 use Rattle.geometry.specs.declared.Rect.{Rect}
 use Rattle.geometry.specs.Rectangles.{inRange, inExtent}
 use Rattle.plan.specs.declared.Shape.{Shape}
@@ -28,7 +28,7 @@ use Rattle.nearest.specs.declared.Near.{Near}
 use Rattle.nearest.specs.declared.NearestAnswer.{NearestAnswer}
 use Rattle.nearest.specs.Nearest.{squaredGap, nothing, nearer, nearestTo, nearestIn, nearestOf, nearestCause, nearestCall, nearCells}
 use Rattle.nearest.specs.Parts.{Part, Within}
-use Rattle.nearest.specs.Theorems.{IsNearest}
+use Rattle.nearest.specs.Theorems.{IsNearest, empty, nearest}
 
 -- ---- causes
 module _ (s : Shape) (cells : List ℤ) (a : Rect) where
@@ -114,52 +114,25 @@ module _ (a : Rect) (rect : ℕ → Rect) where
       go (inl k) = let e : n ≡ p = omega arith in subst P e x
       go (inr k) = f p k
 
-  is-more : (n : ℕ) (e : Near) → IsNearest a (record { size = n; rect = rect }) e → IsNearest a (record { size = suc n; rect = rect }) (nearer e n (squaredGap a (rect n)))
+  is-more : (n : ℕ) {e : Near} → IsNearest a (record { size = n; rect = rect }) e → IsNearest a (record { size = suc n; rect = rect }) (nearer e n (squaredGap a (rect n)))
   unfolding nearer
-  is-more n e i = go (e .found) refl (leb (e .gap) g) refl
+  is-more n (empty z) = nearest n _ (omega arith) refl (below-more n (λ q h. absurd (omega arith)) (omega arith)) (λ q h. absurd (omega arith))
+  is-more n (nearest p gap h is smallest lowest) = go (leb gap g) refl
     where
       g : ℕ
       g = squaredGap a (rect n)
 
-      -- found or not, and no farther or farther than the one at n
-      go : (s : Bool) → e .found ≡ s → (t : Bool) → leb (e .gap) g ≡ t → IsNearest a (record { size = suc n; rect = rect }) (cond (s && t) e (record { found = true; place = n; gap = g }))
-      go true p true q = record {
-        found = (λ k. omega arith, λ k. p);
-        place = λ k. omega (arith, i .place k);
-        gap = i .gap;
-        smallest = below-more n (i .smallest) (leb-true (e .gap) g q);
-        lowest = i .lowest;
-        none = λ k. clash p k;
-      }
-      go true p false q = record {
-        found = (λ k. omega arith, λ k. refl);
-        place = λ k. omega arith;
-        gap = λ k. refl;
-        smallest = below-more n (λ m h. omega (arith, i .smallest m h, leb-false (e .gap) g q)) (omega arith);
-        lowest = λ m h. omega (arith, i .smallest m h, leb-false (e .gap) g q);
-        none = λ k. clash refl k;
-      }
-      go false p t q = record {
-        found = (λ k. omega arith, λ k. refl);
-        place = λ k. omega arith;
-        gap = λ k. refl;
-        smallest = below-more n (λ m h. clash (i .found .1 (omega arith)) p) (omega arith);
-        lowest = λ m h. clash (i .found .1 (omega arith)) p;
-        none = λ k. clash refl k;
-      }
+      -- no farther than the one at n, or farther
+      go : (t : Bool) → leb gap g ≡ t → IsNearest a (record { size = suc n; rect = rect }) (cond t (record { found = true; place = p; gap = gap }) (record { found = true; place = n; gap = g }))
+      go true e = nearest p gap (omega arith) is (below-more n smallest (leb-true gap g e)) lowest
+      go false e =
+          nearest n g (omega arith) refl (below-more n (λ q k. omega (arith, smallest q k, leb-false gap g e)) (omega arith)) (λ q k. omega (arith, smallest q k, leb-false gap g e))
 
   -- so far: the lowest of the nearest among the first n
   pub nearest-is : (n : ℕ) → IsNearest a (record { size = n; rect = rect }) (nearestTo a rect n)
   unfolding nearestTo
-  nearest-is zero = record {
-    found = (λ e. clash e refl, λ h. absurd (omega arith));
-    place = λ e. clash e refl;
-    gap = λ e. clash e refl;
-    smallest = λ p h. absurd (omega arith);
-    lowest = λ p h. absurd (omega arith);
-    none = λ e. (refl, refl);
-  }
-  nearest-is (suc n) = is-more n (nearestTo a rect n) (nearest-is n)
+  nearest-is zero = empty refl
+  nearest-is (suc n) = is-more n (nearest-is n)
 
 -- ---- one layer of a plan
 pub near-empty : (a : Rect) (l : Layer) → l .size ≡ 0 → nothing ≡ nearestIn a l

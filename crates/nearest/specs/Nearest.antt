@@ -6,7 +6,7 @@ use lib.IntN.{ℤ, natAbs, _-ℤ_}
 use lib.Signed.{ltZ}
 use lib.Dec.{leb}
 use lib.ListN.{getD}
-use Rattle.lists.specs.Lists.{each}
+use Rattle.lists.specs.Lists.{each, upto}
 use Rattle.geometry.specs.declared.Rect.{Rect}
 use Rattle.geometry.specs.Rectangles.{inRange}
 use Rattle.plan.specs.declared.Shape.{Shape}
@@ -44,8 +44,7 @@ nearestIn a l = nearestTo a (l .rect) (l .size)
 
 -- what an accepted call answers: six entries, the first layer first; a layer past k is an empty one
 abbrev pub nearestOf : List Layer → Rect → NearestAnswer
-nearestOf ls a =
-    record { number = 0; layers = nearestIn a (layerAt ls 0) ∷ nearestIn a (layerAt ls 1) ∷ nearestIn a (layerAt ls 2) ∷ nearestIn a (layerAt ls 3) ∷ nearestIn a (layerAt ls 4) ∷ nearestIn a (layerAt ls 5) ∷ [] }
+nearestOf ls a = record { number = 0; layers = upto (λ j. nearestIn a (layerAt ls j)) 0 6 }
 
 -- the box is as given, never grown (02, Q-4). 02: "the box has left > right, bottom > top or a coordinate out of range, 14, after 4"
 unfoldable pub nearestCause : Shape → List ℤ → Rect → ℕ
@@ -53,8 +52,7 @@ nearestCause s cells a = planCause s cells orElse unless (inRange a) 14
 
 -- the call; a refusal returns its number and six entries with nothing found
 unfoldable pub nearestCall : Shape → List ℤ → Rect → NearestAnswer
-nearestCall s cells a =
-    onCause (nearestCause s cells a) (nearestOf (layers s cells) a) (λ n. record { number = n; layers = nothing ∷ nothing ∷ nothing ∷ nothing ∷ nothing ∷ nothing ∷ [] })
+nearestCall s cells a = onCause (nearestCause s cells a) (nearestOf (layers s cells) a) (λ n. record { number = n; layers = upto (λ j. nothing) 0 6 })
 
 -- an answer as cells, three for each layer: whether anything was found (0 or 1), its place, the squared gap
 abbrev pub nearCells : NearestAnswer → List ℕ

@@ -69,7 +69,9 @@ pub fn page_over(
 ) -> Page
     requires { ⌜ (shape .k ≤ length (shape .sizes)) × Framed (sizesOf shape) (now grown) ⌝ }
     requires { ⌜ Hourly timed shape (now hours) × Paired timed shape (now hours) ⌝ }
-    ensures { λ r. ⌜ OverGrown shape (now (grown .entry)) (λ cells. AsPage timed shape cells (now (hours .entry)) (now (order .entry)) ticket (now (counter .entry)) budget (now (table .entry)) r (now (counter .exit)) (now (table .exit))) ⌝ }
+    ensures { λ r. ⌜ OverGrown shape (now (grown .entry))
+        (λ cells. AsPage timed shape cells (now (hours .entry))
+        (now (order .entry)) ticket (now (counter .entry)) budget (now (table .entry)) r (now (counter .exit)) (now (table .exit))) ⌝ }
 {
     if !is_order(grown, order) {
         return refused_page(5, ticket);
@@ -98,7 +100,8 @@ pub fn page_grown(
     table: &mut [u32],
 ) -> Page
     requires { ⌜ Sound shape (now cells) × (Hourly timed shape (now hours) × Paired timed shape (now hours)) ⌝ }
-    ensures { λ r. ⌜ AsPage timed shape (now (cells .entry)) (now (hours .entry)) (now (order .entry)) ticket (now (counter .entry)) budget (now (table .entry)) r (now (counter .exit)) (now (table .exit)) ⌝ }
+    ensures { λ r. ⌜ AsPage timed shape (now (cells .entry)) (now (hours .entry))
+        (now (order .entry)) ticket (now (counter .entry)) budget (now (table .entry)) r (now (counter .exit)) (now (table .exit)) ⌝ }
 {
     let mut run = [0i32; MOST_CELLS];
     grow_plan(shape, cells, &mut run);
@@ -129,7 +132,8 @@ pub fn page_on(
     table: &mut [u32],
 ) -> Page
     requires { ⌜ Sound shape (now cells) × Hourly timed shape (now hours) ⌝ }
-    ensures { λ r. ⌜ AsPage timed shape (now (cells .entry)) (now (hours .entry)) (now (order .entry)) ticket (now (counter .entry)) budget (now (table .entry)) r (now (counter .exit)) (now (table .exit)) ⌝ }
+    ensures { λ r. ⌜ AsPage timed shape (now (cells .entry)) (now (hours .entry))
+        (now (order .entry)) ticket (now (counter .entry)) budget (now (table .entry)) r (now (counter .exit)) (now (table .exit)) ⌝ }
 {
     if is_drawn(shape) {
         return page_over(

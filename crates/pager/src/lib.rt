@@ -24,8 +24,9 @@ use planner::is_drawn;
 use planner::plan_cause;
 use timekeeper::hours_cause;
 ghost use mathlib.Core.Path.{_≡_};
+ghost use mathlib.Core.Option.{none, some};
 ghost use Rattle.pager.specs.Answers.{firstOf};
-ghost use Rattle.paging.specs.Calls.{freshCall, freshCounter, pageCause, stopNumber, pageCall, pageTable, pageCounter, timedPageCause, timedPageCall, timedPageTable, timedPageCounter};
+ghost use Rattle.paging.specs.Calls.{freshCall, freshCounter, pageCause, stopNumber, pageCall, pageTable, pageCounter};
 
 // The ticket of the first probe of a plan's walk; a run begins, and its counter is 0 (01: the fresh-ticket call; 02: the run record).
 pub fn fresh_ticket(shape: Shape, cells: &[i32], order: &[u32], counter: &mut [u64]) -> Fresh
@@ -75,10 +76,12 @@ pub fn fetch_page(
     budget: u32,
     table: &mut [u32],
 ) -> Page
-    ensures answer { λ r. ⌜ r ≡ pageCall shape (now (cells .entry)) (now (order .entry)) ticket (now (counter .entry)) budget (now (table .entry)) ⌝ }
-    ensures number { λ r. ⌜ stopNumber (r .stop) ≡ pageCause shape (now (cells .entry)) (now (order .entry)) ticket (now (counter .entry)) ⌝ }
-    ensures counter { λ _. ⌜ now (counter .exit) ≡ pageCounter shape (now (cells .entry)) (now (order .entry)) ticket (now (counter .entry)) budget (now (table .entry)) ⌝ }
-    ensures table { λ _. ⌜ now (table .exit) ≡ pageTable shape (now (cells .entry)) (now (order .entry)) ticket (now (counter .entry)) budget (now (table .entry)) ⌝ }
+    ensures answer { λ r. ⌜ r ≡ pageCall none shape (now (cells .entry)) (now (order .entry)) ticket (now (counter .entry)) budget (now (table .entry)) ⌝ }
+    ensures number { λ r. ⌜ stopNumber (r .stop) ≡ pageCause none shape (now (cells .entry)) (now (order .entry)) ticket (now (counter .entry)) ⌝ }
+    ensures counter { λ _. ⌜ now (counter .exit)
+        ≡ pageCounter none shape (now (cells .entry)) (now (order .entry)) ticket (now (counter .entry)) budget (now (table .entry)) ⌝ }
+    ensures table { λ _. ⌜ now (table .exit)
+        ≡ pageTable none shape (now (cells .entry)) (now (order .entry)) ticket (now (counter .entry)) budget (now (table .entry)) ⌝ }
 {
     let cause = plan_cause(shape, cells);
     if cause != 0 {
@@ -109,10 +112,14 @@ pub fn timed_page(
     budget: u32,
     table: &mut [u32],
 ) -> Page
-    ensures answer { λ r. ⌜ r ≡ timedPageCall shape (now (cells .entry)) (now (hours .entry)) (now (order .entry)) ticket (now (counter .entry)) budget (now (table .entry)) ⌝ }
-    ensures number { λ r. ⌜ stopNumber (r .stop) ≡ timedPageCause shape (now (cells .entry)) (now (hours .entry)) (now (order .entry)) ticket (now (counter .entry)) ⌝ }
-    ensures counter { λ _. ⌜ now (counter .exit) ≡ timedPageCounter shape (now (cells .entry)) (now (hours .entry)) (now (order .entry)) ticket (now (counter .entry)) budget (now (table .entry)) ⌝ }
-    ensures table { λ _. ⌜ now (table .exit) ≡ timedPageTable shape (now (cells .entry)) (now (hours .entry)) (now (order .entry)) ticket (now (counter .entry)) budget (now (table .entry)) ⌝ }
+    ensures answer { λ r. ⌜ r
+        ≡ pageCall (some (now (hours .entry))) shape (now (cells .entry)) (now (order .entry)) ticket (now (counter .entry)) budget (now (table .entry)) ⌝ }
+    ensures number { λ r. ⌜ stopNumber (r .stop)
+        ≡ pageCause (some (now (hours .entry))) shape (now (cells .entry)) (now (order .entry)) ticket (now (counter .entry)) ⌝ }
+    ensures counter { λ _. ⌜ now (counter .exit)
+        ≡ pageCounter (some (now (hours .entry))) shape (now (cells .entry)) (now (order .entry)) ticket (now (counter .entry)) budget (now (table .entry)) ⌝ }
+    ensures table { λ _. ⌜ now (table .exit)
+        ≡ pageTable (some (now (hours .entry))) shape (now (cells .entry)) (now (order .entry)) ticket (now (counter .entry)) budget (now (table .entry)) ⌝ }
 {
     let cause = hours_cause(shape, cells, hours);
     if cause != 0 {

@@ -1,17 +1,16 @@
 -- The test of a counter: where it is passed, the counter is that of the ticket.
-use mathlib.Core.Path.{_≡_, refl, ap, subst}
+use mathlib.Core.Path.{_≡_, refl, ap, _∙_, subst}
 use mathlib.Core.List.{List, [], _∷_}
-use mathlib.Core.Bool.{Bool, true, false, _&&_}
-use mathlib.Core.Logic.{_⊎_, inl, inr, ⊎-elim}
+use mathlib.Core.Bool.{true}
 use Prim.Native.Nat.{ℕ, _<_}
 use native.Mathlib.Omega.{arith}
 use lib.Dec.{eqb, ltb}
 use lib.ListN.{length, getD}
-use borrow.Author.Tests.{ltb-true, ltb-false, lt-ltb, eqb-true, eqb-false, eq-eqb}
+use borrow.Author.Tests.{ltb-true, lt-ltb, eqb-true, eq-eqb}
 use Rattle.lists.specs.Lists.{Tells}
-use Rattle.lists.proofs.Tests.{both, clash}
+use Rattle.lists.proofs.Tests.{both, tells}
 use Rattle.paging.specs.Calls.{mostCount, current}
-use Rattle.paging.specs.Theorems.{Stale}
+use Rattle.paging.specs.Theorems.{Current}
 
 -- one cell, by what it holds
 one-cell : (l : List ℕ) (n : ℕ) → length l ≡ 1 → getD l 0 0 ≡ n → l ≡ n ∷ []
@@ -36,32 +35,11 @@ module _ (count : ℕ) (counter : List ℕ) where
       let k = both (ltb (getD counter 0 0) mostCount) _ (h .1) in
       subst (λ (n : ℕ). n < mostCount) (eqb-true _ _ (k .1)) (ltb-true _ _ (k .0))
 
-  -- so it is not stale
-  fresh-still : current count counter ≡ true → Stale count counter → ⊥
-  fresh-still e = let c = current-is e in ⊎-elim (λ n. n (ap length c)) (⊎-elim (λ m. omega (arith, current-below e, ap (λ (l : List ℕ). getD l 0 0) c, m)) (λ n. n (ap (λ (l : List ℕ). getD l 0 0) c)))
-
-  -- any other is
-  gone-stale : current count counter ≡ false → Stale count counter
-  unfolding current
-  gone-stale e = go (eqb (length counter) 1) (ltb (getD counter 0 0) mostCount) (eqb (getD counter 0 0) count) refl refl refl e
-    where
-      go : (a b c : Bool) → eqb (length counter) 1 ≡ a → ltb (getD counter 0 0) mostCount ≡ b → eqb (getD counter 0 0) count ≡ c → (a && (b && c)) ≡ false → Stale count counter
-      go false b c p q r e = inl (eqb-false _ _ p)
-      go true false c p q r e = inr (inl (ltb-false _ _ q))
-      go true true false p q r e = inr (inr (eqb-false _ _ r))
-      go true true true p q r e = clash refl e
-
-  pub current-tells : Tells (Stale count counter → ⊥) (current count counter)
-  current-tells = record { if-true = fresh-still; if-false = λ e n. n (gone-stale e) }
-
-  pub stale-or-not : Stale count counter ⊎ (Stale count counter → ⊥)
-  stale-or-not = go (current count counter) refl
-    where
-      go : (b : Bool) → current count counter ≡ b → Stale count counter ⊎ (Stale count counter → ⊥)
-      go true e = inr (fresh-still e)
-      go false e = inl (gone-stale e)
-
 -- a count below 2^57 in one cell is current
 pub current-now : (count : ℕ) → count < mostCount → current count (count ∷ []) ≡ true
 unfolding current
 current-now count h = rw (lt-ltb count mostCount h, eq-eqb count count refl)
+
+-- the test tells whether the counter is current
+pub current-tells : (count : ℕ) (counter : List ℕ) → Tells (Current count counter) (current count counter)
+current-tells count counter = tells _ (λ e. (current-is count counter e, current-below count counter e)) (λ h. ap (current count) (h .0) ∙ current-now count (h .1))

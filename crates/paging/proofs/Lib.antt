@@ -3,15 +3,10 @@ pub mod Overlays
 pub mod Resume
 pub mod Tables
 pub mod Calls
-pub mod Lasts
-pub mod Chains
-pub mod Courses
-pub mod Lists
 pub mod Pages
 pub mod Named
 pub mod Counters
-pub mod Serving
 pub mod Causes
+pub mod Serving
 pub mod Runs
 pub mod Theorems
-pub mod TableRows

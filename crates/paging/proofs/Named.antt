@@ -1,142 +1,93 @@
--- A cursor that names a probe field by field, or says Ended, is one that resumes what is left of the walk.
-use mathlib.Core.Path.{_≡_, refl, sym, ap}
-use mathlib.Core.List.{List, [], _∷_, List·Memᴰ, List·Memᴰ·head, List·Memᴰ·cases-cons, List·Memᴰ·not-nil, Memᴰ·append-right}
+-- What is due at a cursor: the cursor of each probe of a walk says which it is, and what a cursor says leads back to it.
+use mathlib.Core.Path.{_≡_, refl, sym, ap, _∙_}
+use mathlib.Core.List.{List, [], _∷_, List·Memᴰ}
 use mathlib.Core.Option.{Option, none, some}
-use mathlib.Core.Bool.{Bool, true, false, cond}
-use mathlib.Core.Logic.{_⊎_, inl, inr, ⊎-elim}
-use Prim.Native.Nat.{ℕ, _+_, suc, _-_, _≤_, _<_}
+use mathlib.Core.Bool.{true}
+use Prim.Native.Nat.{ℕ}
 use native.Mathlib.Omega.{arith}
 use lib.IntN.{ℤ}
-use lib.ListN.{length, getD, length-take}
-use lib.Seq.{length-take-le}
-use Rattle.lists.specs.Lists.{All, Tells, isSome}
+use lib.ListN.{length, take, drop, take-append-drop}
+use lib.Seq.{length-take-le, drop-append-seam}
+use Rattle.lists.specs.Lists.{All, _and_, Tells, isSome, padded}
 use Rattle.lists.proofs.Tests.{clash, tells}
-use Rattle.lists.proofs.Lists.{all-at, all-of-mem}
+use Rattle.lists.proofs.Lists.{all-at, all-of-mem, all-parts}
 use Rattle.lists.proofs.Padding.{padded-long, padded-zeros, padded-front}
-use Rattle.plan.specs.Plan.{count}
-use Rattle.plan.specs.Spots.{Spot, spotOf}
-use Rattle.plan.proofs.Spots.{rect-number, size-of, spot-number, number-small}
+use Rattle.plan.proofs.Spots.{rect-number}
 use Rattle.search.specs.Traversal.{Guard, Probe}
-use Rattle.search.specs.Names.{Named}
 use Rattle.search.proofs.Stands.{named-short}
 use Rattle.paging.specs.declared.Cursor.{Cursor}
 use Rattle.paging.specs.Overlays.{Overlay}
-use Rattle.paging.specs.Cursors.{cursorOf, endedCursor, sameCursor, findIn, resume}
-use Rattle.paging.specs.Theorems.{Says, NamesProbe}
-use Rattle.paging.proofs.Cursors.{chosenIn, guardIn, same-cursor-refl, never-ended, cursor-guard, cursor-chosen}
+use Rattle.paging.specs.Cursors.{cursorOf, dueCursor, resume}
+use Rattle.paging.specs.Theorems.{Says, Due, over, next, Good}
+use Rattle.paging.proofs.Cursors.{cursor-chosen}
 use Rattle.paging.proofs.Overlays.{OfPlan}
-use Rattle.paging.proofs.Resume.{Left, walk-deep, resume-is, resume-ended}
+use Rattle.paging.proofs.Resume.{walk-deep, resume-is, resume-due}
 
--- the cursor of a probe of the list finds something there
-find-some : {S : Type 0} (ns : List ℕ) {t : Probe S} (walk : List (Probe S)) → List·Memᴰ t walk → isSome (findIn ns (cursorOf ns t) walk) ≡ true
-find-some ns [] m = absurd (List·Memᴰ·not-nil m)
-find-some ns {t} (u ∷ walk) m = go (sameCursor (cursorOf ns u) (cursorOf ns t)) refl (find-some ns walk)
-  where
-    go : (b : Bool) → sameCursor (cursorOf ns u) (cursorOf ns t) ≡ b → (List·Memᴰ t walk → isSome (findIn ns (cursorOf ns t) walk) ≡ true) → isSome (cond b (some (u ∷ walk)) (findIn ns (cursorOf ns t) walk)) ≡ true
-    go true q f = refl
-    go false q f = ⊎-elim (λ e. clash (rw e (same-cursor-refl (cursorOf ns u))) q) f (List·Memᴰ·cases-cons m)
-
-module _ {S : Type 0} {guard : ℕ → Guard S} {cells : List ℤ} (o : Overlay S) (of : OfPlan guard cells o) where
-  -- its sizes
-  abbrev ns : List ℕ
-  ns = o .sizes
-
-  -- the cursor of a probe of the walk names it
-  pub cursor-names : (t : Probe S) → List·Memᴰ t (o .walk) → NamesProbe guard ns cells (cursorOf ns t)
-  cursor-names t m = record {
-    going = refl;
-    layer = omega arith;
-    has = rw e (rect-number ns cells (t .guard) (omega (arith, h .0, of .frame .whole)) .1);
-    five = padded-long 5 (t .chosen);
-    zeros = padded-zeros 5 (t .chosen);
-    places = rw (cursor-guard ns t, cursor-chosen ns t (all-at (walk-deep o (of .laws)) m)) (h .1);
+-- ---- what a cursor says
+module _ {S : Type 0} (ns : List ℕ) where
+  -- a cursor that says a probe is its cursor
+  says-is : (c : Cursor) (t : Probe S) → Says ns c t → c ≡ cursorOf ns t
+  says-is c t h = λ i. record {
+    ended = h .going i;
+    layer = h .layer i;
+    place = h .place i;
+    filled = filled i;
+    chosen = chosen i;
+    next = h .next i;
   }
     where
-      e : suc (spotOf ns (t .guard) .layer) - 1 ≡ spotOf ns (t .guard) .layer
-      e = omega arith
+      filled : c .filled ≡ length (t .chosen)
+      filled = sym (length-take-le (c .filled) (c .chosen) (omega (arith, h .few, h .five))) ∙ ap length (h .chosen)
 
-      h : (t .guard < count cells) × Named (guard (t .guard) .slots) (guard (t .guard) .start) (t .chosen) (t .tried)
-      h = of .is .probes (t .guard) (t .chosen) (t .tried) .0 (t .yields, m)
+      chosen : c .chosen ≡ padded 5 (t .chosen)
+      chosen = sym (padded-front 5 (c .filled) (c .chosen) (h .five) (h .zeros)) ∙ ap (padded 5) (h .chosen)
 
-  module _ (c : Cursor) (p : NamesProbe guard ns cells c) where
-    -- the place is one of its layer's
-    inside : c .place < getD ns (c .layer - 1) 0
-    inside = rw (size-of ns cells (c .layer - 1)) at (p .has)
+  -- so it is the one of what is due
+  pub due-is : {c : Cursor} {w : List (Probe S)} → Due ns c w → c ≡ dueCursor ns w
+  due-is over = refl
+  due-is (next {c = c} {t = t} h) = says-is c t h
 
-    -- the guard's number leads to its spot
-    spotted : spotOf ns (guardIn ns c) ≡ record { layer = c .layer - 1; place = c .place }
-    spotted = spot-number ns (c .layer - 1) (c .place) inside
+  -- and back
+  is-due : (w : List (Probe S)) → All (λ t. Says ns (cursorOf ns t) t) w → Due ns (dueCursor ns w) w
+  is-due [] h = over
+  is-due (t ∷ w) (_and_ h hs) = next h
 
-    -- a cursor that names a probe leaves a slot for the place to try
-    pub names-slots : c .filled + 2 ≤ length ns
-    names-slots = omega (arith, named-short (p .places), of .slots (guardIn ns c) (rw spotted (p .has)), length-take (c .filled) (c .chosen), p .five)
-
-    -- and so one of its five cells unfilled
-    pub names-filled : c .filled ≤ 4
-    names-filled = omega (arith, names-slots, of .frame .few)
-
-    -- it is the cursor of a probe of its guard with its candidates
-    names-same : (y : Option S) → cursorOf ns (record { guard = guardIn ns c; chosen = chosenIn c; tried = c .next; yields = y }) ≡ c
-    names-same y = λ i. record {
-      ended = sym (p .going) i;
-      layer = layer i;
-      place = ap (λ (a : Spot). a .place) spotted i;
-      filled = filled i;
-      chosen = padded-front 5 (c .filled) (c .chosen) (p .five) (p .zeros) i;
-      next = c .next;
-    }
-      where
-        layer : suc (spotOf ns (guardIn ns c) .layer) ≡ c .layer
-        layer = omega (arith, ap (λ (a : Spot). a .layer) spotted, p .layer)
-
-        filled : length (chosenIn c) ≡ c .filled
-        filled = length-take-le (c .filled) (c .chosen) (omega (arith, names-filled, p .five))
-
-    -- a cursor that names a probe is that of one of the walk
-    names-cursor : (t : Probe S) × List·Memᴰ t (o .walk) × (cursorOf ns t ≡ c)
-    names-cursor =
-        let n = number-small ns (c .layer - 1) (c .place) inside in
-        let i = of .is .probes (guardIn ns c) (chosenIn c) (c .next) .1 (omega (arith, n, of .frame .whole), p .places) in
-        (_, i .1, names-same (i .0))
-
-    -- a cursor that names a probe resumes something
-    names-resumes : isSome (resume o c) ≡ true
-    unfolding resume
-    names-resumes =
-        let i = names-cursor in
-        rw (← i .2, never-ended ns (i .0)) (find-some ns (o .walk) (i .1))
-
-  -- a cursor resumes something exactly where it is good
-  pub resumes : (c : Cursor) → Tells ((c ≡ endedCursor) ⊎ NamesProbe guard ns cells c) (isSome (resume o c))
-  resumes c = tells (isSome (resume o c)) (λ e. to (resume o c) refl e) from
-    where
-      left : (w : List (Probe S)) → Left ns (o .walk) c w → (c ≡ endedCursor) ⊎ NamesProbe guard ns cells c
-      left [] l = inl (sym (l .due))
-      left (t ∷ w) l = inr (rw (← l .due) (cursor-names t (rw (← l .splits) (Memᴰ·append-right (l .before) (List·Memᴰ·head refl)))))
-
-      to : (r : Option (List (Probe S))) → resume o c ≡ r → isSome r ≡ true → (c ≡ endedCursor) ⊎ NamesProbe guard ns cells c
-      to none e h = clash h refl
-      to (some w) e h = left w (resume-is o c w e)
-
-      from : (c ≡ endedCursor) ⊎ NamesProbe guard ns cells c → isSome (resume o c) ≡ true
-      from (inl e) = rw (resume-ended o (of .laws) c .1 e)
-      from (inr p) = names-resumes c p
-
+-- ---- of a plan
+module _ {S : Type 0} {guard : ℕ → Guard S} {cells : List ℤ} (o : Overlay S) (of : OfPlan guard cells o) where
   -- the cursor of each probe says its guard and its candidates
-  pub cursor-says : All (λ t. Says ns (cursorOf ns t) t) (o .walk)
+  cursor-says : All (λ t. Says (o .sizes) (cursorOf (o .sizes) t) t) (o .walk)
   cursor-says = all-of-mem (o .walk) one
     where
-      one : (t : Probe S) → List·Memᴰ t (o .walk) → Says ns (cursorOf ns t) t
+      one : (t : Probe S) → List·Memᴰ t (o .walk) → Says (o .sizes) (cursorOf (o .sizes) t) t
       one t m =
-          let p = cursor-names t m in
+          let h = of .is .probes (t .guard) (t .chosen) (t .tried) .0 (t .yields, m) in
+          let short = named-short (h .1) in
+          let slots = of .slots (t .guard) (rect-number (o .sizes) cells (t .guard) (omega (arith, h .0, of .frame .whole)) .1) in
           record {
             going = refl;
             layer = refl;
             place = refl;
-            few = names-filled (cursorOf ns t) p;
-            slots = names-slots (cursorOf ns t) p;
-            five = p .five;
-            zeros = p .zeros;
-            chosen = cursor-chosen ns t (all-at (walk-deep o (of .laws)) m);
+            few = omega (arith, short, slots, of .frame .few);
+            slots = omega (arith, short, slots);
+            five = padded-long 5 (t .chosen);
+            zeros = padded-zeros 5 (t .chosen);
+            chosen = cursor-chosen (o .sizes) t (all-at (walk-deep o (of .laws)) m);
             next = refl;
           }
+
+  -- what is left after any number of probes is due at its cursor
+  pub left-due : (n : ℕ) → Due (o .sizes) (dueCursor (o .sizes) (drop n (o .walk))) (drop n (o .walk))
+  left-due n = is-due (o .sizes) (drop n (o .walk)) (all-parts (take n (o .walk)) (rw (take-append-drop n (o .walk)) cursor-says) .1)
+
+  -- a cursor resumes something exactly where it is good
+  pub resumes : (c : Cursor) → Tells (Good o c) (isSome (resume o c))
+  resumes c = tells (isSome (resume o c)) (λ e. to (resume o c) refl e) (λ h. rw (due-is (o .sizes) (h .1), resume-due o (of .laws) (h .0)))
+    where
+      to : (r : Option (List (Probe S))) → resume o c ≡ r → isSome r ≡ true → Good o c
+      to none e h = clash h refl
+      to (some w) e h =
+          let k = resume-is o c w e in
+          let n = length (k .before) in
+          let z : drop n (o .walk) ≡ w = ap (drop n) (sym (k .splits)) ∙ drop-append-seam (k .before) w in
+          let d : dueCursor (o .sizes) (drop n (o .walk)) ≡ c = ap (dueCursor (o .sizes)) z ∙ k .due in
+          (n, rw d at (left-due n))

@@ -2,5 +2,5 @@ pub mod Overlays
 pub mod Cursors
 pub mod Pages
 pub mod Calls
+pub mod Inner
 pub mod Theorems
-pub mod TableRows

@@ -1,5 +1,5 @@
-// Cursors, tickets, pages and whole runs: the types of the calls' answers. What the calls answer is defined in specs/, what demand 3 says of
-// lists of calls is proved in proofs/; the code of the calls is in the crates `pager` and `runner`.
+// Cursors, tickets, pages and whole runs: the types of the calls' answers. What the calls answer is defined in specs/; what demand 3 says of lists of
+// calls is in the crate `demands`, the code of the calls in the crates `pager` and `runner`.
 
 use search::Stop;
 use totals::Total;
@@ -41,10 +41,4 @@ pub struct Page {
 pub enum Run {
     Refused(u32),
     Done(u32, u64, Total, Total),
-}
-
-// What the crossing report answers: what the whole run does, and how many rows fall in each class, 0 to 16.
-pub struct CrossingReport {
-    pub run: Run,
-    pub counts: [u32; 17],
 }

@@ -18,7 +18,7 @@ ghost use Rattle.plan.specs.Frames.{Framed};
 ghost use Rattle.join.specs.Join.{rects};
 ghost use Rattle.rows.specs.RowCall.{fits};
 ghost use Rattle.rows.specs.Layers.{Reached, rectsFrom};
-ghost use Rattle.pairs.specs.PairCall.{apartAt, firstPair, pairCall};
+ghost use Rattle.pairs.specs.PairCall.{apartAt, firstPair, pairCall, pairValues};
 ghost use Rattle.pairs.specs.Told.{told};
 
 // The cause of places that are not one in each layer.
@@ -26,7 +26,8 @@ const PLACES: u32 = 23;
 
 // Whether the rectangles at the places share a point, or the first pair of layers whose two do not meet.
 pub fn apart_pair(shape: Shape, cells: &[i32], places: &[u32]) -> PairAnswer
-    ensures { λ r. ⌜ r ≡ pairCall shape (now (cells .entry)) (now (places .entry)) ⌝ }
+    ensures answer { λ r. ⌜ r ≡ pairCall shape (now (cells .entry)) (now (places .entry)) ⌝ }
+    ensures values { λ r. ⌜ pairValues r ≡ pairValues (pairCall shape (now (cells .entry)) (now (places .entry))) ⌝ }
 {
     let cause = plan_cause(shape, cells);
     if cause != 0 {

@@ -14,7 +14,8 @@ use Rattle.geometry.proofs.Integers.{zarith}
 use Rattle.geometry.proofs.Rectangles.{max-law, min-law, sides, point-meets}
 use Rattle.join.specs.Join.{cut}
 use Rattle.join.proofs.Join.{corner, point-some, cut-in}
-use Rattle.pairs.specs.Theorems.{Holds, Meet}
+use Rattle.geometry.specs.Theorems.{Meet}
+use Rattle.pairs.specs.Theorems.{Holds}
 
 -- two extents, a to x and b to y, meet where each begins before each ends
 extents : (a b x y : ℤ) → maxZ a b ≤ℤ minZ x y → (a ≤ℤ y) × (b ≤ℤ x) × (b ≤ℤ y)

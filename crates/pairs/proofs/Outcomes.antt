@@ -40,7 +40,7 @@ module _ {ls : List Layer} {row : List ℕ} (w : Within ls row) where
   first-is : (i j : ℕ) → FirstAt nowhere (rects ls row) i j → IsFirst ls row i j
   first-is i j f = record {
     pair = record { order = f .order; there = there; apart = λ m. clash (meet-meets _ _ m) (sym (same i j (omega (arith, f .order, there)) there) ∙ f .apart) };
-    earlier = λ a b o l z. meets-point _ _ (sym (same a b (omega arith) l) ∙ f .earlier a b o (omega (arith, within-long w .0)) z);
+    first = λ a b p. later a b p (total a i) (total i a) (total j b);
   }
     where
       there : j < length ls
@@ -48,6 +48,17 @@ module _ {ls : List Layer} {row : List ℕ} (w : Within ls row) where
 
       same : (a b : ℕ) → a < length ls → b < length ls → meets (getD (rects ls row) a nowhere) (getD (rects ls row) b nowhere) ≡ meets (chosen ls row a) (chosen ls row b)
       same a b p q = ap₂ meets (chosen-at w a p) (chosen-at w b q)
+
+      -- the two of an earlier pair meet
+      meet : (a b : ℕ) → IsPair ls row a b → (a < i) ⊎ ((a ≡ i) × (b < j)) → ⊥
+      meet a b p z =
+          p .apart (meets-point _ _ (sym (same a b (omega (arith, p .order, p .there)) (p .there)) ∙ f .earlier a b (p .order) (omega (arith, p .there, within-long w .0)) z))
+
+      later : (a b : ℕ) → IsPair ls row a b → (a ≤ i) ⊎ (i < a) → (i ≤ a) ⊎ (a < i) → (j ≤ b) ⊎ (b < j) → (i < a) ⊎ ((i ≡ a) × (j ≤ b))
+      later a b p (inr x) y z = inl x
+      later a b p (inl x) (inr y) z = absurd (meet a b p (inl y))
+      later a b p (inl x) (inl y) (inl z) = inr (omega arith, z)
+      later a b p (inl x) (inl y) (inr z) = absurd (meet a b p (inr (omega arith, z)))
 
 -- a pair and a common point exclude each other, whatever the other places
 pub pair-excludes : {ls : List Layer} {row other : List ℕ} {i j : ℕ} → IsPair ls row i j → getD other i 0 ≡ getD row i 0 → getD other j 0 ≡ getD row j 0 → InJoin ls other → ⊥
@@ -58,14 +69,13 @@ pair-excludes {ls} {row} {other} {i} {j} p e f h = p .apart (h .x, h .y, (at i e
 
 -- there is one first pair at most
 pub first-one : {ls : List Layer} {row : List ℕ} {i j a b : ℕ} → IsFirst ls row i j → IsFirst ls row a b → (i ≡ a) × (j ≡ b)
-first-one {i = i} {j} {a} {b} f g = go (total i a) (total a i) (total j b) (total b j)
+first-one {i = i} {j} {a} {b} f g = go (f .first a b (g .pair)) (g .first i j (f .pair))
   where
-    go : (i ≤ a) ⊎ (a < i) → (a ≤ i) ⊎ (i < a) → (j ≤ b) ⊎ (b < j) → (b ≤ j) ⊎ (j < b) → (i ≡ a) × (j ≡ b)
-    go (inr p) q r s = absurd (g .pair .apart (f .earlier a b (g .pair .order) (g .pair .there) (inl p)))
-    go (inl p) (inr q) r s = absurd (f .pair .apart (g .earlier i j (f .pair .order) (f .pair .there) (inl q)))
-    go (inl p) (inl q) (inr r) s = absurd (g .pair .apart (f .earlier a b (g .pair .order) (g .pair .there) (inr (omega arith, r))))
-    go (inl p) (inl q) (inl r) (inr s) = absurd (f .pair .apart (g .earlier i j (f .pair .order) (f .pair .there) (inr (omega arith, s))))
-    go (inl p) (inl q) (inl r) (inl s) = (omega arith, omega arith)
+    go : (i < a) ⊎ ((i ≡ a) × (j ≤ b)) → (a < i) ⊎ ((a ≡ i) × (b ≤ j)) → (i ≡ a) × (j ≡ b)
+    go (inl p) (inl q) = absurd (omega arith)
+    go (inl p) (inr q) = absurd (omega (arith, q .0))
+    go (inr p) (inl q) = absurd (omega (arith, p .0))
+    go (inr p) (inr q) = (p .0, omega (arith, p .1, q .1))
 
 -- ---- the answer
 pub data Outcome (ls : List Layer) (row : List ℕ) (v : PairAnswer) : Type 0 where

@@ -26,7 +26,7 @@ abbrev pub firstPair : ℕ → List Rect → PairAnswer
 firstPair i [] = Share
 firstPair i (r ∷ rs) = cond (ltb (apartAt r rs) (length rs)) (Pair i (suc i + apartAt r rs)) (firstPair (suc i) rs)
 
--- the first of the causes 1 to 4, 17 and 23 that applies. 02: "not k places, or a place not in its layer, 23, after 4" (specs/Theorems.antt, `twentyThree`)
+-- the first of the causes 1 2 17 3 4 23 that applies. 02: "not k places, or a place not in its layer, 23, after 4" (specs/Theorems.antt, `causes`)
 unfoldable pub pairCause : Shape → List ℤ → List ℕ → ℕ
 pairCause s cells row = planCause s cells orElse unless (fits (sizesOf s) row) 23
 

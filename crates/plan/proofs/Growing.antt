@@ -32,8 +32,8 @@ from-length m rect p (suc n) = omega (arith, from-length m rect (suc p) n)
 pub layers-length : (ms : List ℕ) (j : ℕ) (ns : List ℕ) (cells : List ℤ) → length (grownLayers ms j (layersOf ns cells)) ≡ 4 * sum ns
 layers-length ms j [] cells = refl
 layers-length ms j (n ∷ ns) cells =
-    let f = grownFrom (getD ms j 0) (rectAt (take (4 * n) cells)) 0 n in
-    omega (arith, length-append f (grownLayers ms (suc j) (layersOf ns (drop (4 * n) cells))), from-length (getD ms j 0) (rectAt (take (4 * n) cells)) 0 n, layers-length ms (suc j) ns (drop (4 * n) cells))
+    let e : 4 * n + 4 * sum ns ≡ 4 * (n + sum ns) = omega arith in
+    rw (length-append, from-length, layers-length ms (suc j) ns (drop (4 * n) cells)) e
 
 -- ---- what its rectangles are
 rect-first : (r : Rect) (rest : List ℤ) → rectAt (rectCells r ++ rest) 0 ≡ r
@@ -125,7 +125,7 @@ module _ (s : Shape) (cells : List ℤ) where
   unfolding grown
   grows = record {
     sizes = λ j. size-of (sizesOf s) (grown s cells) j;
-    rects = grown-at;
+    rects = λ t h. grown-at (t .layer) (t .place) (subst (λ (n : ℕ). t .place < n) (size-of (sizesOf s) (grown s cells) (t .layer)) h);
     none = λ h f. let c = checked s cells h in layers-none (s .margins) 0 (sizesOf s) cells f (omega (arith, c .whole, front-sum s cells c));
   }
 

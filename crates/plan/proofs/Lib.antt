@@ -1,4 +1,5 @@
 pub mod Plan
+pub mod Causes
 pub mod Spots
 pub mod Growing
 pub mod Theorems

@@ -1,7 +1,7 @@
 -- Laws of the checks: what each goes by, and that a plan which they let through is sound.
 use mathlib.Core.Path.{_≡_, refl, sym, ap, _∙_}
 use mathlib.Core.List.{List, [], _∷_}
-use mathlib.Core.Logic.{_⊎_, inl, inr, _↔_}
+use mathlib.Core.Logic.{_↔_}
 use mathlib.Core.Bool.{Bool, true, false, _&&_, _||_}
 use Prim.Native.Nat.{ℕ, zero, suc, _+_, _*_, _≤_, _<_, zero-le}
 use native.Mathlib.Omega.{arith}
@@ -17,8 +17,7 @@ use Rattle.geometry.specs.Rectangles.{inRange}
 use Rattle.plan.specs.Limits.{mostRects}
 use Rattle.plan.specs.declared.Shape.{Shape}
 use Rattle.plan.specs.Causes.{unless, _orElse_}
-use Rattle.plan.specs.Plan.{rectAt, count, sizesOf, fitsAt, allFit, allRanged, planCause, Sound}
-use native.Mathlib.Nat.{le-refl}
+use Rattle.plan.specs.Plan.{rectAt, count, sizesOf, fitsAt, allFit, allRanged, shapeCause, planCause, Sound}
 
 -- ---- two checks
 -- where neither of two causes applies
@@ -38,11 +37,6 @@ or-else-second a b n e h = rw e h
 pub unless-zero : (t : Bool) (c : ℕ) → unless t (suc c) ≡ 0 → t ≡ true
 unless-zero true c e = refl
 unless-zero false c e = absurd (omega arith)
-
--- a check gives its own cause or none
-pub unless-most : (t : Bool) (n : ℕ) → unless t n ≤ n
-unless-most true n = zero-le
-unless-most false n = le-refl n
 
 module _ {P : Type 0} where
   -- one check more lets through exactly where no earlier cause applies and what it tests holds
@@ -110,10 +104,7 @@ pub summed-end : (ns : List ℕ) (n j : ℕ) → Summed ns n j → length ns ≤
 summed-end ns n j s h = let e = ap sum (drop-of-length-le ns h) in omega (arith, s .same)
 
 -- ---- the causes
--- of a shape: the first of 1, 2 and 17
-abbrev pub shapeCause : Shape → ℕ
-shapeCause s = unless (leb 2 (s .k) && leb (s .k) 6) 1 orElse unless (allFit 512 (s .k) 0 (s .sizes)) 2 orElse unless (allFit 50000 (s .k) 0 (s .margins)) 17
-
+-- of a shape
 module _ (s : Shape) where
   pub shape-low : s .k < 2 → 1 ≡ shapeCause s
   shape-low h = rw (lt-leb 2 (s .k) h)
@@ -123,11 +114,11 @@ module _ (s : Shape) where
     shape-high h = rw (le-leb 2 (s .k) low, lt-leb (s .k) 6 h)
 
     module _ (high : s .k ≤ 6) where
-      pub shape-sizes : false ≡ allFit 512 (s .k) 0 (s .sizes) → 2 ≡ shapeCause s
-      shape-sizes e = rw (le-leb 2 (s .k) low, le-leb (s .k) 6 high, ← e)
-
       pub shape-margins : true ≡ allFit 512 (s .k) 0 (s .sizes) → (t : Bool) → t ≡ allFit 50000 (s .k) 0 (s .margins) → unless t 17 ≡ shapeCause s
       shape-margins f t e = rw (le-leb 2 (s .k) low, le-leb (s .k) 6 high, ← f, ← e)
+
+      pub shape-sizes : false ≡ allFit 512 (s .k) 0 (s .sizes) → 2 ≡ shapeCause s
+      shape-sizes e = rw (le-leb 2 (s .k) low, le-leb (s .k) 6 high, ← e)
 
 -- of a plan
 module _ (s : Shape) (cells : List ℤ) where
@@ -207,23 +198,3 @@ sum-small (_and_ h hs) = omega (arith, sum-small hs)
 -- six sizes make at most 3,072 rectangles
 pub few : (s : Shape) (cells : List ℤ) → Sound s cells → count cells ≤ mostRects
 few s cells h = let c = checked s cells h in omega (arith, h .typed .sizes, count-is s cells c, sum-small (fit-small 512 (s .k) 0 (s .sizes) (c .fit)))
-
--- a plan is refused by 1 to 4 or 17
-pub plan-known : (s : Shape) (cells : List ℤ) → (planCause s cells ≤ 4) ⊎ (planCause s cells ≡ 17)
-unfolding planCause
-plan-known s cells = go (leb 2 (s .k) && leb (s .k) 6) (allFit 512 (s .k) 0 (s .sizes)) (allFit 50000 (s .k) 0 (s .margins)) (eqb (length cells) (4 * sum (s .sizes))) (allRanged (count cells) cells)
-  where
-    go : (a b m c d : Bool) → let n : ℕ = unless a 1 orElse unless b 2 orElse unless m 17 orElse unless c 3 orElse unless d 4 in (n ≤ 4) ⊎ (n ≡ 17)
-    go false b m c d = inl (omega arith)
-    go true false m c d = inl (omega arith)
-    go true true false c d = inr refl
-    go true true true false d = inl (omega arith)
-    go true true true true d = inl (unless-most d 4)
-
--- so no other number refuses it
-pub plan-not : (s : Shape) (cells : List ℤ) (n : ℕ) → 4 < n → (n ≡ 17 → ⊥) → planCause s cells ≡ n → ⊥
-plan-not s cells n h x e = go (plan-known s cells)
-  where
-    go : (planCause s cells ≤ 4) ⊎ (planCause s cells ≡ 17) → ⊥
-    go (inl p) = omega (arith, e)
-    go (inr p) = x (sym e ∙ p)

@@ -1,5 +1,6 @@
 -- Causes by their numbers (01, "Causes and their numbers"): 0 stands for none.
 use mathlib.Core.Bool.{Bool, true, false}
+use mathlib.Core.Path.{_≡_}
 use Prim.Native.Nat.{ℕ, zero, suc}
 
 infixl 20 _orElse_
@@ -17,3 +18,13 @@ _orElse_ (suc first) second = suc first
 abbrev pub onCause : {A : Type 0} → ℕ → A → (ℕ → A) → A
 onCause zero accepted refused = accepted
 onCause (suc cause) accepted refused = refused (suc cause)
+
+-- ---- what theorems say of causes: 01's table, line by line
+-- a line: the cause is n where P does not hold, and else what the next lines say. 01: "Checked in the order of the lines that apply"
+pub data Check (n : ℕ) (P : Type 0) (Next : ℕ → Type 0) (cause : ℕ) : Type 0 where
+  fails : cause ≡ n → (P → ⊥) → Check n P Next cause
+  passes : P → Next cause → Check n P Next cause
+
+-- behind the last line
+abbrev pub Passed : ℕ → Type 0
+Passed cause = cause ≡ 0

@@ -2,11 +2,11 @@
 use mathlib.Core.Path.{_≡_}
 use mathlib.Core.List.{List, [], _∷_, _++_}
 use mathlib.Core.Bool.{Bool, true, _&&_, _||_}
-use Prim.Native.Nat.{ℕ, zero, suc, _+_, _*_, _/_}
+use Prim.Native.Nat.{ℕ, suc, _+_, _*_, _/_}
 use lib.IntN.{ℤ, pos}
 use lib.Dec.{eqb, leb, ltb}
 use lib.ListN.{length, getD, take, drop}
-use Rattle.lists.specs.Lists.{sum, holdsBelow}
+use Rattle.lists.specs.Lists.{sum, each, holdsBelow}
 use Rattle.geometry.specs.declared.Rect.{Rect}
 use Rattle.geometry.specs.Rectangles.{inRange, mostMargin, grownBy}
 use Rattle.plan.specs.declared.Shape.{Shape}
@@ -16,7 +16,12 @@ use Rattle.plan.specs.Limits.{mostLayers, mostSize}
 -- 01: "signed 32-bit cells, four for each rectangle: left, bottom, right, top"
 unfoldable pub rectAt : List ℤ → ℕ → Rect
 rectAt cells i =
-    record { left = getD cells (4 * i) (pos 0); bottom = getD cells (4 * i + 1) (pos 0); right = getD cells (4 * i + 2) (pos 0); top = getD cells (4 * i + 3) (pos 0) }
+    record {
+      left = getD cells (4 * i) (pos 0);
+      bottom = getD cells (4 * i + 1) (pos 0);
+      right = getD cells (4 * i + 2) (pos 0);
+      top = getD cells (4 * i + 3) (pos 0);
+    }
 
 -- the four cells of a rectangle
 abbrev pub rectCells : Rect → List ℤ
@@ -43,8 +48,7 @@ sizesOf s = take (s .k) (s .sizes)
 -- ---- the grown plan (02, Q-4)
 -- the cells of n rectangles from place p on, each grown by m
 abbrev pub grownFrom : ℕ → (ℕ → Rect) → (p n : ℕ) → List ℤ
-grownFrom m rect p zero = []
-grownFrom m rect p (suc n) = rectCells (grownBy m (rect p)) ++ grownFrom m rect (suc p) n
+grownFrom m rect p n = each (λ q. rectCells (grownBy m (rect q))) p n
 
 -- ... of layers from the one at j on, counted from 0, each by its margin
 abbrev pub grownLayers : (margins : List ℕ) → ℕ → List Layer → List ℤ
@@ -73,12 +77,15 @@ allFit most k j (n ∷ ns) = fitsAt most k j n && allFit most k (suc j) ns
 abbrev pub allRanged : ℕ → List ℤ → Bool
 allRanged n cells = holdsBelow (λ i. inRange (rectAt cells i)) n
 
--- the first of the causes 1 to 4 and 17 that applies to a plan. 02, Q-4: "a margin out of range, or not 0 past k, 17, after 2"; "check 4 and the text take
--- it ungrown"
+-- the first of the causes 1, 2 and 17 that applies to a shape. 02, Q-4: "a margin out of range, or not 0 past k, 17, after 2"
+abbrev pub shapeCause : Shape → ℕ
+shapeCause s =
+    unless (leb 2 (s .k) && leb (s .k) mostLayers) 1
+    orElse unless (allFit mostSize (s .k) 0 (s .sizes)) 2 orElse unless (allFit mostMargin (s .k) 0 (s .margins)) 17
+
+-- the first of the causes 1 2 17 3 4 that applies to a plan. 02, Q-4: "check 4 and the text take it ungrown"
 unfoldable pub planCause : Shape → List ℤ → ℕ
-planCause s cells =
-    unless (leb 2 (s .k) && leb (s .k) mostLayers) 1 orElse unless (allFit mostSize (s .k) 0 (s .sizes)) 2 orElse unless (allFit mostMargin (s .k) 0 (s .margins)) 17
-    orElse unless (eqb (length cells) (4 * sum (s .sizes))) 3 orElse unless (allRanged (count cells) cells) 4
+planCause s cells = shapeCause s orElse unless (eqb (length cells) (4 * sum (s .sizes))) 3 orElse unless (allRanged (count cells) cells) 4
 
 -- what the types of a shape's fields say: six sizes and six margins, as [u32; 6] does
 pub record Typed (s : Shape) : Type 0 where

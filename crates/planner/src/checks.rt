@@ -6,14 +6,10 @@ use plan::MOST_MARGIN;
 use plan::MOST_SIZE;
 use plan::Shape;
 ghost use mathlib.Core.Path.{_≡_};
-ghost use mathlib.Core.Bool.{_&&_};
 ghost use Prim.Native.Nat.{_≤_};
-ghost use lib.Dec.{leb};
 ghost use Rattle.lists.specs.Lists.{sum};
-ghost use Rattle.plan.specs.Plan.{count, fitsAt, allFit, allRanged, planCause};
-ghost use Rattle.geometry.specs.Rectangles.{mostMargin};
-ghost use Rattle.plan.specs.Limits.{mostLayers, mostSize};
-ghost use Rattle.plan.specs.Causes.{unless, _orElse_};
+ghost use Rattle.plan.specs.Plan.{count, fitsAt, allFit, allRanged, shapeCause, planCause};
+ghost use Rattle.plan.specs.Limits.{mostLayers};
 
 // The first of the causes 1, 2, 17, 3 and 4 that applies, or 0.
 pub fn plan_cause(shape: Shape, cells: &[i32]) -> u32
@@ -31,7 +27,7 @@ pub fn plan_cause(shape: Shape, cells: &[i32]) -> u32
 
 // The first of the causes 1, 2 and 17 that applies, or 0.
 fn shape_cause(shape: Shape) -> u32
-    ensures { λ r. ⌜ r ≡ (unless (leb 2 (shape .k) && leb (shape .k) mostLayers) 1 orElse unless (allFit mostSize (shape .k) 0 (shape .sizes)) 2 orElse unless (allFit mostMargin (shape .k) 0 (shape .margins)) 17) ⌝ }
+    ensures { λ r. ⌜ r ≡ shapeCause shape ⌝ }
 {
     let k = shape.k as usize;
     if k < 2 {

@@ -29,7 +29,9 @@ fn grow_layers<'a>(
     run: &mut [i32],
 ) -> usize
     requires { ⌜ Growable (now sizes) (now margins) k (now cells) (length (now run)) ⌝ }
-    ensures { λ r. ⌜ Put (now (run .entry)) 0 (grownLayers (now (margins .entry)) 0 (layersOf (take k (now (sizes .entry))) (now (cells .entry)))) (now (run .exit)) r ⌝ }
+    ensures { λ r.
+        let ls = layersOf (take k (now (sizes .entry))) (now (cells .entry)) in
+        ⌜ Put (now (run .entry)) 0 (grownLayers (now (margins .entry)) 0 ls) (now (run .exit)) r ⌝ }
 {
     let mut at: usize = 0;
     let mut start: usize = 0;

@@ -19,8 +19,8 @@ ghost use Rattle.lists.specs.Stores.{Put};
 ghost use Rattle.plan.specs.Plan.{layersOf};
 ghost use Rattle.plan.specs.Frames.{Framed};
 ghost use Rattle.rows.specs.RowCall.{isRow};
-ghost use Rattle.paging.specs.Theorems.{rowsIn};
-ghost use Rattle.paging.specs.TableRows.{TableRows};
+ghost use Rattle.rows.specs.Tables.{rowsIn};
+ghost use Rattle.rows.specs.TableRows.{TableRows};
 ghost use Rattle.totals.specs.Totals.{metre, valueOf, Kept};
 ghost use Rattle.printing.specs.Lines.{fieldsEnd, ROW, lineOf, rowFields, rowLine, rowLines, hundredths, squareMetres, totalLine, refusedLine};
 ghost use Rattle.printing.specs.Parts.{tabbed, FitsAt};
@@ -123,7 +123,8 @@ fn put_joined(
     requires { ⌜ (k ≤ length (now sizes)) × Framed (take k (now sizes)) (now cells) ⌝ }
     requires { ⌜ isRow (layersOf (take k (now sizes)) (now cells)) (now row) ≡ true ⌝ }
     requires { ⌜ FitsAt (now buf) at (rowLine (layersOf (take k (now sizes)) (now cells)) (now row)) ⌝ }
-    ensures { λ r. ⌜ Put (now (buf .entry)) at (rowLine (layersOf (take k (now (sizes .entry))) (now (cells .entry))) (now (row .entry))) (now (buf .exit)) r ⌝ }
+    ensures { λ r. ⌜ Put (now (buf .entry)) at
+        (rowLine (layersOf (take k (now (sizes .entry))) (now (cells .entry))) (now (row .entry))) (now (buf .exit)) r ⌝ }
 {
     match row_ground(sizes, k, cells, row) {
         Sharing::Nothing => at,
@@ -147,7 +148,8 @@ fn put_rows(
 ) -> usize
     requires { ⌜ TableRows (now sizes) k (now cells) (now table) n ⌝ }
     requires { ⌜ FitsAt (now buf) from (rowLines (layersOf (take k (now sizes)) (now cells)) (rowsIn k n (now table))) ⌝ }
-    ensures { λ r. ⌜ Put (now (buf .entry)) from (rowLines (layersOf (take k (now (sizes .entry))) (now (cells .entry))) (rowsIn k n (now (table .entry)))) (now (buf .exit)) r ⌝ }
+    ensures { λ r. ⌜ Put (now (buf .entry)) from
+        (rowLines (layersOf (take k (now (sizes .entry))) (now (cells .entry))) (rowsIn k n (now (table .entry)))) (now (buf .exit)) r ⌝ }
 {
     let mut at = from;
     let mut start: usize = 0;
@@ -216,7 +218,8 @@ fn put_probes(buf: &mut [u8], at: usize, probes: u64, total: Total) -> usize
 // A TOTAL line from its rows on; the place behind it.
 fn put_counts(buf: &mut [u8], at: usize, rows: u32, probes: u64, total: Total) -> usize
     requires { ⌜ Kept total × FitsAt (now buf) at (fieldsEnd (decimal rows ∷ decimal probes ∷ squareMetres (hundredths (valueOf total)) ∷ [])) ⌝ }
-    ensures { λ r. ⌜ Put (now (buf .entry)) at (fieldsEnd (decimal rows ∷ decimal probes ∷ squareMetres (hundredths (valueOf total)) ∷ [])) (now (buf .exit)) r ⌝ }
+    ensures { λ r. ⌜ Put (now (buf .entry)) at
+        (fieldsEnd (decimal rows ∷ decimal probes ∷ squareMetres (hundredths (valueOf total)) ∷ [])) (now (buf .exit)) r ⌝ }
 {
     let a = put_field(buf, at, rows as u64);
     put_probes(buf, a, probes, total)
@@ -244,7 +247,9 @@ pub fn put_table(
 ) -> usize
     requires { ⌜ TableRows (now sizes) k (now cells) (now table) n × Kept total ⌝ }
     requires { ⌜ FitsAt (now buf) 0 (rowLines (layersOf (take k (now sizes)) (now cells)) (rowsIn k n (now table)) ++ totalLine n probes total) ⌝ }
-    ensures { λ r. ⌜ Put (now (buf .entry)) 0 (rowLines (layersOf (take k (now (sizes .entry))) (now (cells .entry))) (rowsIn k n (now (table .entry))) ++ totalLine n probes total) (now (buf .exit)) r ⌝ }
+    ensures { λ r. ⌜ Put (now (buf .entry)) 0
+        (rowLines (layersOf (take k (now (sizes .entry))) (now (cells .entry))) (rowsIn k n (now (table .entry))) ++ totalLine n probes total)
+        (now (buf .exit)) r ⌝ }
 {
     let at = put_rows(buf, 0, sizes, k, cells, table, n as usize);
     put_total(buf, at, n, probes, total)

@@ -12,7 +12,7 @@ use Rattle.geometry.specs.Rectangles.{letterOf}
 use Rattle.decimal.specs.Numerals.{digits, decimal}
 use Rattle.decimal.proofs.Numerals.{length-decimal, size-most}
 use Rattle.plan.specs.Plan.{Layer}
-use Rattle.paging.specs.Pages.{cellsOf}
+use Rattle.rows.specs.Tables.{cellsOf}
 use Rattle.printing.specs.Lines.{fieldsEnd, ROW, rowFields, lineOf, rowLine, rowLines, hundredths, squareMetres, totalLine, refusedLine}
 use Rattle.printing.specs.Parts.{tabbed}
 

@@ -17,9 +17,9 @@ use Rattle.rows.specs.declared.Sharing.the-variants.{Nothing, Shared}
 use Rattle.rows.specs.Grounds.{groundOf}
 use Rattle.rows.proofs.Answers.{ground-none, ground-small, ground-layer, ground-area, ground-kind}
 use Rattle.rows.specs.RowCall.{isRow}
-use Rattle.paging.specs.Theorems.{rowsIn}
-use Rattle.paging.specs.TableRows.{TableRows}
-use Rattle.paging.proofs.TableRows.{Ahead, none-read, rows-split, next-is-row, one-read, row-inside}
+use Rattle.rows.specs.Tables.{rowsIn}
+use Rattle.rows.specs.TableRows.{TableRows}
+use Rattle.rows.proofs.TableRows.{Ahead, none-read, rows-split, next-is-row, one-read, row-inside}
 use Rattle.lists.specs.Stores.{Put}
 use Rattle.lists.proofs.Stores.{Left, left-all, left-put, left-none}
 use Rattle.printing.specs.Lines.{lineOf, ROW, rowFields, rowLine, rowLines}

@@ -20,8 +20,8 @@ ghost use Rattle.plan.specs.Plan.{count, grown, layers, Sound};
 ghost use Rattle.sweep.specs.Sweep.{sweepOrder};
 ghost use Rattle.lists.specs.Stores.{Put};
 ghost use Rattle.totals.specs.Totals.{Kept};
-ghost use Rattle.paging.specs.Theorems.{rowsIn};
-ghost use Rattle.paging.specs.TableRows.{TableRows};
+ghost use Rattle.rows.specs.Tables.{rowsIn};
+ghost use Rattle.rows.specs.TableRows.{TableRows};
 ghost use Rattle.printing.specs.Lines.{rowLines, totalLine};
 ghost use Rattle.printing.specs.Parts.{FitsAt};
 ghost use Rattle.reporting.specs.Report.{runTableCells, roomForAny, reportOf, outAfter};
@@ -117,7 +117,8 @@ fn report_ordered(
     table: &mut [u32],
     out: &mut [u8],
 ) -> usize
-    requires { ⌜ Sound shape (now cells) × (now order ≡ sweepOrder (grown shape (now cells))) × (length (now table) ≡ runTableCells) × (roomForAny ≤ length (now out)) ⌝ }
+    requires { ⌜ Sound shape (now cells) × (now order ≡ sweepOrder (grown shape (now cells)))
+        × (length (now table) ≡ runTableCells) × (roomForAny ≤ length (now out)) ⌝ }
     ensures { λ r. ⌜ Put (now (out .entry)) 0 (planReport shape (now (cells .entry))) (now (out .exit)) r ⌝ }
 {
     let mut work = [0i32; RUN_WORK_CELLS];
@@ -150,7 +151,8 @@ fn put_grown(
 ) -> usize
     requires { ⌜ Sound shape (now cells) × TableRows (shape .sizes) (shape .k) (grown shape (now cells)) (now table) rows × Kept total ⌝ }
     requires { ⌜ FitsAt (now out) 0 (rowLines (layers shape (now cells)) (rowsIn (shape .k) rows (now table)) ++ totalLine rows probes total) ⌝ }
-    ensures { λ r. ⌜ Put (now (out .entry)) 0 (rowLines (layers shape (now (cells .entry))) (rowsIn (shape .k) rows (now (table .entry))) ++ totalLine rows probes total) (now (out .exit)) r ⌝ }
+    ensures { λ r. ⌜ Put (now (out .entry)) 0
+        (rowLines (layers shape (now (cells .entry))) (rowsIn (shape .k) rows (now (table .entry))) ++ totalLine rows probes total) (now (out .exit)) r ⌝ }
 {
     let mut run = [0i32; MOST_CELLS];
     grow_plan(shape, cells, &mut run);

@@ -1,6 +1,7 @@
 -- Laws of the report on a plan: the buffers that it takes, and the room.
 use mathlib.Core.Path.{_≡_, refl, sym, _∙_}
 use mathlib.Core.List.{List, _++_}
+use mathlib.Core.Option.{none}
 use Prim.Native.Nat.{ℕ, zero, suc, _*_, _/_, _≤_}
 use native.Mathlib.Nat.{le-trans, mul-le-mul-left, mul-le-mul-right, mul-div-le}
 use native.Mathlib.Omega.{arith}
@@ -19,7 +20,7 @@ use Rattle.sweep.proofs.Orders.{order-made}
 use Rattle.join.specs.Table.{tableOf}
 use Rattle.paging.specs.Pages.{room}
 use Rattle.paging.specs.Calls.{runCause}
-use Rattle.paging.proofs.Tables.{cells-long}
+use Rattle.rows.proofs.Tables.{cells-long}
 use Rattle.paging.proofs.Overlays.{lawful}
 use Rattle.sweep.proofs.Theorems.{order-passes}
 use Rattle.paging.proofs.Runs.{run-holds, run-passed}
@@ -58,7 +59,7 @@ part-long order n h = omega (arith, length-take n order)
 
 module _ (s : Shape) (cells : List ℤ) (sound : Sound s cells) (order table : List ℕ) (o : order ≡ sweepOrder (grown s cells)) (long : length table ≡ runTableCells) where
   -- the cause goes by the table's length alone
-  pub same-cause : runCause s cells order table runWorkCells ≡ runCause s cells (sweepOrder (grown s cells)) emptyTable runWorkCells
+  pub same-cause : runCause none s cells order table runWorkCells ≡ runCause none s cells (sweepOrder (grown s cells)) emptyTable runWorkCells
   unfolding runCause
   same-cause = rw (o, long, empty-long)
 
@@ -91,8 +92,8 @@ refused-room out cause h = record { fits = omega (arith, refused-few cause) }
 -- no report on a plan is longer
 pub plan-longest : (s : Shape) (cells : List ℤ) → Sound s cells → length (planReport s cells) ≤ roomForAny
 unfolding planReport
-plan-longest s cells sound = go (runCause s cells (sweepOrder (grown s cells)) emptyTable runWorkCells) refl
+plan-longest s cells sound = go (runCause none s cells (sweepOrder (grown s cells)) emptyTable runWorkCells) refl
   where
-    go : (cause : ℕ) → runCause s cells (sweepOrder (grown s cells)) emptyTable runWorkCells ≡ cause → length (onCause cause (tableReport s cells) refusedLine) ≤ roomForAny
+    go : (cause : ℕ) → runCause none s cells (sweepOrder (grown s cells)) emptyTable runWorkCells ≡ cause → length (onCause cause (tableReport s cells) refusedLine) ≤ roomForAny
     go zero e = lines-fit s cells sound (sweepOrder (grown s cells)) emptyTable refl empty-long _ _ _ (run-holds s cells (sweepOrder (grown s cells)) emptyTable runWorkCells sound (order-passes s cells (sound .passed)) (run-passed s cells _ emptyTable runWorkCells e .1) .succeeds .0 e)
     go (suc cause) e = omega (arith, refused-few (suc cause))

@@ -2,6 +2,7 @@
 use mathlib.Core.Path.{_≡_, refl, sym, ap, _∙_}
 use mathlib.Core.Bool.{Bool, true, false}
 use mathlib.Core.List.{List, _++_}
+use mathlib.Core.Option.{none}
 use Prim.Native.Nat.{ℕ, zero, suc, _≤_}
 use native.Mathlib.Omega.{arith}
 use lib.IntN.{ℤ}
@@ -21,12 +22,12 @@ use Rattle.paging.specs.Overlays.{overlay}
 use Rattle.paging.specs.declared.Run.{Run}
 use Rattle.paging.specs.declared.Run.the-variants.{Refused, Done}
 use Rattle.paging.specs.Calls.{runCause, runCall, runTable, runValues}
-use Rattle.paging.specs.Theorems.{rowsIn}
+use Rattle.rows.specs.Tables.{rowsIn}
 use Rattle.sweep.proofs.Theorems.{order-passes}
 use Rattle.paging.proofs.Runs.{run-holds, run-passed}
 use Rattle.printing.specs.Lines.{rowLines, totalLine, refusedLine}
-use Rattle.paging.specs.TableRows.{TableRows}
-use Rattle.paging.proofs.TableRows.{table-rows}
+use Rattle.rows.specs.TableRows.{TableRows}
+use Rattle.rows.proofs.TableRows.{table-rows}
 use Rattle.printing.specs.Parts.{FitsAt}
 use Rattle.reporting.specs.Report.{runTableCells, runWorkCells, emptyTable, tableReport, roomForAny}
 use Rattle.reporting.specs.Parts.{RanInto, planReport}
@@ -55,7 +56,7 @@ module _ (rows probes : ℕ) (area total : Total) where
 -- the run's answer and its table
 pub ran : (s : Shape) (cells : List ℤ) (order lent : List ℕ) (run : Run) (table : List ℕ)
     → Sound s cells → order ≡ sweepOrder (grown s cells) → length lent ≡ runTableCells
-    → run ≡ runCall s cells order lent runWorkCells → table ≡ runTable s cells order lent runWorkCells → RanInto s cells run table
+    → run ≡ runCall none s cells order lent runWorkCells → table ≡ runTable none s cells order lent runWorkCells → RanInto s cells run table
 ran s cells order lent run table sound o long e f =
     record { sound = sound; lent = lent; long = long; answer = rw o at e; filled = rw o at f }
 
@@ -64,7 +65,7 @@ module _ (s : Shape) (cells : List ℤ) (run : Run) (table : List ℕ) (h : RanI
   pub refused-report : (c : ℕ) → run ≡ Refused c → planReport s cells ≡ refusedLine c
   unfolding runCall planReport
   refused-report c e =
-      refusal _ _ _ _ (tableReport s cells) refusedLine (runCause s cells (sweepOrder (grown s cells)) emptyTable runWorkCells) c
+      refusal _ _ _ _ (tableReport s cells) refusedLine (runCause none s cells (sweepOrder (grown s cells)) emptyTable runWorkCells) c
       (rw (same-cause s cells (h .sound) (sweepOrder (grown s cells)) (h .lent) refl (h .long)) at (sym e ∙ h .answer))
 
   module _ (rows probes : ℕ) (area total : Total) (e : run ≡ Done rows probes area total) where
@@ -80,12 +81,12 @@ module _ (s : Shape) (cells : List ℤ) (run : Run) (table : List ℕ) (h : RanI
     told =
         let order = sweepOrder (grown s cells) in
         let lent = h .lent in
-        let d = success _ _ _ _ (runCause s cells order lent runWorkCells) rows probes area total (sym e ∙ h .answer) in
-        let z : runCause s cells order emptyTable runWorkCells ≡ 0 = sym (same-cause s cells (h .sound) order lent refl (h .long)) ∙ d .0 in
+        let d = success _ _ _ _ (runCause none s cells order lent runWorkCells) rows probes area total (sym e ∙ h .answer) in
+        let z : runCause none s cells order emptyTable runWorkCells ≡ 0 = sym (same-cause s cells (h .sound) order lent refl (h .long)) ∙ d .0 in
         let r = run-holds s cells order lent runWorkCells (h .sound) (order-passes s cells (h .sound .passed)) (run-passed s cells order lent runWorkCells (d .0) .1) in
         record {
           is = rw (z, d .1, d .2, d .3);
-          read = rw (h .filled, d .1) (rw (d .0) at (r .rows (d .0)));
+          read = rw (h .filled, d .1) (r .rows (d .0));
           short = lines-fit s cells (h .sound) order lent refl (h .long) rows probes total (r .succeeds .0 (d .0));
           kept = kept-total total _ (d .3) (omega (arith, union-holds .bound (grounds (layers s cells) (overlay s cells .table))));
         }

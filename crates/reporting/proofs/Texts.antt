@@ -6,14 +6,14 @@ use Prim.Native.Nat.{ℕ, zero, suc, _*_, _≤_, _<_}
 use native.Mathlib.Omega.{arith}
 use lib.IntN.{ℤ}
 use lib.ListN.{length, take, drop, length-append, length-take}
-use lib.Seq.{take-at}
+use lib.Seq.{take-at, take-append-seam}
 use borrow.Author.Tests.{le-leb, lt-leb}
 use Rattle.lists.specs.Lists.{sum}
 use Rattle.lists.proofs.Tests.{total}
 use Rattle.plan.specs.Limits.{mostCells}
 use Rattle.text.specs.declared.Reading.{Reading}
 use Rattle.text.specs.Reader.{readCause, textShape, textCells, readAnswer, cellsAfter}
-use Rattle.text.proofs.Theorems.{round-trip}
+use Rattle.text.proofs.Theorems.{of-plan}
 use Rattle.lists.specs.Stores.{Put}
 use Rattle.lists.proofs.Stores.{put-start, put-length}
 use Rattle.printing.specs.Lines.{refusedLine}
@@ -41,7 +41,7 @@ pub never-longer : (t : List ℕ) → length (reportOf t) ≤ roomForAny
 never-longer t = go (total (length t) 65536)
   where
     read : length t ≤ 65536 → (n : ℕ) → n ≡ readCause mostCells t → length (reportOf t) ≤ roomForAny
-    read h zero e = rw (plan-text t h (sym e)) (plan-longest (textShape t) (textCells t) (round-trip .only mostCells t (sym e) .sound))
+    read h zero e = rw (plan-text t h (sym e)) (plan-longest (textShape t) (textCells t) (of-plan mostCells t (sym e) .sound))
     read h (suc n) e = rw (refused-text t h (suc n) e (λ z. omega (arith, z))) (omega (arith, refused-few (suc n)))
 
     go : (length t ≤ 65536) ⊎ (65536 < length t) → length (reportOf t) ≤ roomForAny
@@ -65,11 +65,11 @@ module _ (t : List ℕ) (cells : List ℤ) (r : Reading) (short : length t ≤ 6
     cells-read = g ∙ rw (long, accepted)
 
     first-read : planCells (r .shape) after ≡ textCells t
-    first-read = rw (shape-read, cells-read) (take-at (textCells t) (drop (length (textCells t)) cells) (4 * sum (textShape t .sizes)) (round-trip .only mostCells t accepted .four))
+    first-read = rw (shape-read, cells-read) (take-at (textCells t) (drop (length (textCells t)) cells) (4 * sum (textShape t .sizes)) (of-plan mostCells t accepted .four))
 
     pub plan-lent : Lent (r .shape) after
     plan-lent =
-        let p = round-trip .only mostCells t accepted in
+        let p = of-plan mostCells t accepted in
         record {
           fits = rw (shape-read, cells-read) (omega (arith, p .four, length-append (textCells t) (drop (length (textCells t)) cells)));
           sound = rw (first-read, shape-read) (p .sound);
@@ -92,3 +92,7 @@ printed t out last r h p =
     let e = put-start out last (reportOf t) r (omega (arith, never-longer t)) p in
     let l = put-length out last (reportOf t) 0 r p in
     (omega (arith, p .place), (e, inside r last (omega (arith, p .place, l, never-longer t))))
+
+-- its first bytes, as many as the report has, are the report
+pub first-bytes : (t out last : List ℕ) (r : ℕ) → r ≡ length (reportOf t) → last ≡ outAfter t out → take r last ≡ reportOf t
+first-bytes t out last r e f = rw (e, f) (take-append-seam (reportOf t) _)

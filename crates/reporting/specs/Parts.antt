@@ -1,6 +1,7 @@
 -- What the parts of the report promise one another; no public call's contract cites it.
 use mathlib.Core.Path.{_≡_}
 use mathlib.Core.List.{List}
+use mathlib.Core.Option.{none}
 use Prim.Native.Nat.{ℕ, _*_, _≤_}
 use lib.IntN.{ℤ}
 use lib.ListN.{length, take}
@@ -16,7 +17,7 @@ use Rattle.reporting.specs.Report.{runTableCells, runWorkCells, emptyTab
 
 -- what is printed for a plan
 unfoldable pub planReport : Shape → List ℤ → List ℕ
-planReport s cells = onCause (runCause s cells (sweepOrder (grown s cells)) emptyTable runWorkCells) (tableReport s cells) refusedLine
+planReport s cells = onCause (runCause none s cells (sweepOrder (grown s cells)) emptyTable runWorkCells) (tableReport s cells) refusedLine
 
 -- the first cells, four for each rectangle of a shape
 abbrev pub planCells : Shape → List ℤ → List ℤ
@@ -32,5 +33,5 @@ pub record RanInto (s : Shape) (cells : List ℤ) (run : Run) (table : List ℕ)
   pub sound : Sound s cells
   pub lent : List ℕ
   pub long : length lent ≡ runTableCells
-  pub answer : run ≡ runCall s cells (sweepOrder (grown s cells)) lent runWorkCells
-  pub filled : table ≡ runTable s cells (sweepOrder (grown s cells)) lent runWorkCells
+  pub answer : run ≡ runCall none s cells (sweepOrder (grown s cells)) lent runWorkCells
+  pub filled : table ≡ runTable none s cells (sweepOrder (grown s cells)) lent runWorkCells

@@ -1,5 +1,6 @@
 -- What the report program prints for a text (01, "The report").
 use mathlib.Core.List.{List, _++_}
+use mathlib.Core.Option.{none}
 use Prim.Native.Nat.{ℕ}
 use lib.Dec.{leb}
 use lib.IntN.{ℤ}
@@ -9,8 +10,11 @@ use Rattle.plan.specs.Causes.{unless, _orElse_, onCause}
 use Rattle.plan.specs.Limits.{mostCells}
 use Rattle.plan.specs.Plan.{sizesOf, layers, grown}
 use Rattle.sweep.specs.Sweep.{sweepOrder}
-use Rattle.join.specs.Table.{tableOf}
-use Rattle.paging.specs.Calls.{runValues, runCause, runCall}
+use Rattle.join.specs.Table.{planTable}
+use Rattle.ground.specs.Union.{unionOf, grounds}
+use Rattle.totals.specs.Totals.{totalOf}
+use Rattle.walk.specs.Walk.{walkOf}
+use Rattle.paging.specs.Calls.{runCause}
 use Rattle.text.specs.Reader.{readCause, textShape, textCells}
 use Rattle.printing.specs.Lines.{rowLines, totalLine, refusedLine}
 
@@ -26,14 +30,20 @@ runWorkCells = 12288
 unfoldable pub emptyTable : List ℕ
 emptyTable = replicate runTableCells 0
 
--- the lines of all rows, and the total of the whole run in sweep order. 02, Q-6: "The TOTAL line's square metres become those of the union"; printed only where the run is not refused, and its counts are those of these rows
+-- the lines of all rows of a plan's table, and the total: rows, the walk's length, and 02, Q-6: "The TOTAL line's square metres become those of the union of
+-- all rows' common ground"
 abbrev pub tableReport : Shape → List ℤ → List ℕ
-tableReport s cells = let v = runValues (runCall s cells (sweepOrder (grown s cells)) emptyTable runWorkCells) in rowLines (layers s cells) (tableOf (sizesOf s) (grown s cells)) ++ totalLine (v .rows) (v .probes) (v .ground)
+tableReport s cells =
+    let table = planTable s cells in
+    let walk = walkOf (sizesOf s) (grown s cells) in
+    rowLines (layers s cells) table ++ totalLine (length table) (length walk) (totalOf (unionOf (grounds (layers s cells) table)))
 
 -- 13, "input above 65,536 bytes", comes "before all others"; then the reader's causes, where it is lent cells for any plan; then those of the whole run
 unfoldable pub reportCause : List ℕ → ℕ
 reportCause t =
-    unless (leb (length t) 65536) 13 orElse readCause mostCells t orElse runCause (textShape t) (textCells t) (sweepOrder (grown (textShape t) (textCells t))) emptyTable runWorkCells
+    let s = textShape t in
+    let cells = textCells t in
+    unless (leb (length t) 65536) 13 orElse readCause mostCells t orElse runCause none s cells (sweepOrder (grown s cells)) emptyTable runWorkCells
 
 -- what is printed for a text
 unfoldable pub reportOf : List ℕ → List ℕ

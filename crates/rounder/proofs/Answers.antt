@@ -1,20 +1,23 @@
 -- What the round call answers, in each of its cases.
-use mathlib.Core.Path.{_≡_, refl}
+use mathlib.Core.Path.{_≡_, refl, ap, _∙_}
+use mathlib.Core.Option.{none}
 use mathlib.Core.Bool.{true, false}
 use mathlib.Core.List.{List, []}
 use Prim.Native.Nat.{ℕ, zero, suc}
 use lib.IntN.{ℤ}
 use lib.ListN.{length}
 use Rattle.plan.specs.declared.Shape.{Shape}
+use Rattle.plan.specs.Causes.{_orElse_}
 use Rattle.sweep.specs.Sweep.{orderCause}
 use Rattle.paging.specs.declared.Page.{Page}
+use Rattle.paging.specs.Calls.{pageCause}
 use Rattle.slots.specs.declared.Frame.{Frame}
 use Rattle.slots.specs.Frames.{Made}
 use Rattle.pager.proofs.Calls.{Admitted}
 use Rattle.rounds.specs.declared.Round.{Round}
 use Rattle.rounds.specs.Shares.{after}
-use Rattle.rounds.specs.Rounds.{Request, fits, clientsCause, roundCause, roundCall, roundCounters, roundTable}
-use Rattle.rounder.specs.Parts.{refusedRound, Opens, AllServed, RoundAnswered}
+use Rattle.rounds.specs.Rounds.{Request, ticketAt, counterAt, fits, clientsCause, roundCause, roundCall, roundCounters, roundTable}
+use Rattle.rounder.specs.Parts.{causeFrom, refusedRound, Opens, AllServed, RoundAnswered}
 
 module _ (q : Request) where
   -- a refusal
@@ -29,6 +32,10 @@ module _ (q : Request) where
   round-given e r counted filled a next n = record { answer = rw (← e, n, a .pages); counters = rw (← e) (a .counters); table = rw (← e) (a .table) }
 
   -- ---- the cause that is told
+  clients-are : (t n : ℕ) → causeFrom (q .shape) (q .cells) (q .order) (q .tickets) (q .counters) t n ≡ clientsCause q t n
+  clients-are t zero = refl
+  clients-are t (suc n) = ap (λ (c : ℕ). pageCause none (q .shape) (q .cells) (q .order) (ticketAt q t) (counterAt q t) orElse c) (clients-are (suc t) n)
+
   pub by-order : (n : ℕ) → n ≡ orderCause (q .shape) (q .cells) (q .order) → (n ≡ 0 → ⊥) → n ≡ roundCause q
   unfolding roundCause
   by-order zero e h = absurd (h refl)
@@ -39,9 +46,9 @@ module _ (q : Request) where
     unfolding roundCause
     by-numbers e = rw (passed, e)
 
-    pub by-clients : fits (q .clients) (q .first) (q .budget) (length (q .counters)) ≡ true → (n : ℕ) → n ≡ clientsCause (q .shape) (q .cells) (q .order) (q .tickets) (q .counters) 1 (q .clients) → n ≡ roundCause q
+    pub by-clients : fits (q .clients) (q .first) (q .budget) (length (q .counters)) ≡ true → (n : ℕ) → n ≡ causeFrom (q .shape) (q .cells) (q .order) (q .tickets) (q .counters) 1 (q .clients) → n ≡ roundCause q
     unfolding roundCause
-    by-clients e n h = rw (passed, e) h
+    by-clients e n h = rw (passed, e) (h ∙ clients-are 1 (q .clients))
 
 -- what the round goes on with, once plan and order are let through
 pub opens : (s : Shape) (plain : List ℤ) (order : List ℕ) (here : List ℤ) (f : Frame) → Admitted false s plain [] order here f → Made s false f → Opens s plain order here f

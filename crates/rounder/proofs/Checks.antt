@@ -2,6 +2,7 @@
 use mathlib.Core.Path.{_≡_, refl, sym, ap, ap₂, _∙_}
 use mathlib.Core.Bool.{false}
 use mathlib.Core.List.{List, []}
+use mathlib.Core.Option.{none}
 use Prim.Native.Nat.{ℕ, suc, _+_, _-_, _≤_, _<_}
 use native.Mathlib.Numerals.{add-one}
 use native.Mathlib.Omega.{arith}
@@ -18,8 +19,8 @@ use Rattle.paging.specs.Cursors.{endedCursor}
 use Rattle.paging.specs.Calls.{pageCause}
 use Rattle.slots.specs.declared.Frame.{Frame}
 use Rattle.pager.specs.Answers.{overlayIn, plainOverlay, ticketCause}
-use Rattle.rounds.specs.Rounds.{ticketOf, counterOf, fits, clientsCause}
-use Rattle.rounder.specs.Parts.{Opens, OnPlans}
+use Rattle.rounds.specs.Rounds.{ticketOf, counterOf, fits}
+use Rattle.rounder.specs.Parts.{causeFrom, Opens, OnPlans}
 use Rattle.rounds.proofs.Parts.{getD-any}
 
 -- ---- 22
@@ -59,7 +60,7 @@ module _ {s : Shape} {plain : List ℤ} {order : List ℕ} {here : List ℤ} {f 
   same-overlay = ap₂ (λ (ns : List ℕ) (l : List ℤ). overlayIn false ns l []) (k .sizes) (k .is)
 
   -- what is left of a page call's checks behind those of plan and order
-  pub ticket-checks : (t : Ticket) (counter : List ℕ) → pageCause s plain order t counter ≡ ticketCause (plainOverlay f here) t counter
+  pub ticket-checks : (t : Ticket) (counter : List ℕ) → pageCause none s plain order t counter ≡ ticketCause (plainOverlay f here) t counter
   unfolding pageCause
   ticket-checks t counter = rw (k .passed, same-overlay)
 
@@ -67,27 +68,27 @@ module _ (order : List ℕ) (here : List ℤ) (f : Frame) (m : ℕ) (tickets : L
   -- the first i clients are let through
   pub record Passing (i : ℕ) : Type 0 where
     pub few : i ≤ m
-    pub same : OnPlans order here f (λ s plain. clientsCause s plain order tickets counters 1 m ≡ clientsCause s plain order tickets counters (suc i) (m - i))
+    pub same : OnPlans order here f (λ s plain. causeFrom s plain order tickets counters 1 m ≡ causeFrom s plain order tickets counters (suc i) (m - i))
 
   pub passing-none : Passing 0
   passing-none = let z : m - 0 ≡ m = omega arith in record { few = omega arith; same = λ s plain k. rw z }
 
-  pub passing-all : (i : ℕ) → Passing i → m ≤ i → OnPlans order here f (λ s plain. 0 ≡ clientsCause s plain order tickets counters 1 m)
+  pub passing-all : (i : ℕ) → Passing i → m ≤ i → OnPlans order here f (λ s plain. 0 ≡ causeFrom s plain order tickets counters 1 m)
   passing-all i p h s plain k = let z : m - i ≡ 0 = omega arith in sym (p .same s plain k ∙ rw z)
 
   module _ (i : ℕ) (p : Passing i) (h : i < m) (l : length tickets ≡ 16) (most : m ≤ 16) (d : Ticket) (a : ℕ) (one : a ≡ 1) (cause : ℕ) (e : cause ≡ ticketCause (plainOverlay f here) (getD tickets i d) (take a (drop i counters))) where
     -- the next client's cause comes first
-    next-cause : OnPlans order here f (λ s plain. clientsCause s plain order tickets counters 1 m ≡ (cause orElse clientsCause s plain order tickets counters (suc (i + 1)) (m - (i + 1))))
+    next-cause : OnPlans order here f (λ s plain. causeFrom s plain order tickets counters 1 m ≡ (cause orElse causeFrom s plain order tickets counters (suc (i + 1)) (m - (i + 1))))
     next-cause s plain k =
         let z : m - i ≡ suc (m - (i + 1)) = omega arith in
         let y : suc i - 1 ≡ i = omega arith in
         let x = add-one i in
         let t : getD tickets i d ≡ ticketOf tickets (suc i) = getD-any tickets i d _ (omega arith) ∙ ap (λ (j : ℕ). getD tickets j (record { cursor = endedCursor; count = 0 })) (sym y) in
         let u : take a (drop i counters) ≡ counterOf counters (suc i) = ap₂ (λ (j n : ℕ). take j (drop n counters)) one (sym y) in
-        let c : cause ≡ pageCause s plain order (ticketOf tickets (suc i)) (counterOf counters (suc i)) = e ∙ ap₂ (ticketCause (plainOverlay f here)) t u ∙ sym (ticket-checks k _ _) in
+        let c : cause ≡ pageCause none s plain order (ticketOf tickets (suc i)) (counterOf counters (suc i)) = e ∙ ap₂ (ticketCause (plainOverlay f here)) t u ∙ sym (ticket-checks k _ _) in
         p .same s plain k ∙ rw (z, x, c)
 
-    pub passing-stops : (cause ≡ 0 → ⊥) → OnPlans order here f (λ s plain. cause ≡ clientsCause s plain order tickets counters 1 m)
+    pub passing-stops : (cause ≡ 0 → ⊥) → OnPlans order here f (λ s plain. cause ≡ causeFrom s plain order tickets counters 1 m)
     passing-stops n s plain k = or-else-first cause _ cause refl n ∙ sym (next-cause s plain k)
 
     pub passing-more : cause ≡ 0 → Passing (i + 1)

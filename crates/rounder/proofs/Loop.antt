@@ -25,10 +25,10 @@ use Rattle.slots.specs.declared.Frame.{Frame}
 use Rattle.slots.specs.Frames.{Framing}
 use Rattle.pager.specs.Answers.{plainOverlay, Kept, PagedAt}
 use Rattle.rounds.specs.Shares.{after, clientAt}
-use Rattle.rounds.specs.Rounds.{request, ticketOf, partSize}
+use Rattle.rounds.specs.Rounds.{ticketOf, partSize}
 use Rattle.rounds.proofs.Shares.{client-from, client-to}
 use Rattle.rounds.proofs.Parts.{parts-within}
-use Rattle.rounder.specs.Parts.{emptyPage, OnPlans, OneServed, AllServed}
+use Rattle.rounder.specs.Parts.{request, emptyPage, OnPlans, OneServed, AllServed}
 use Rattle.rounder.proofs.Turns.{map-long, Turned, turned-none, turned-all, turned-more}
 
 -- no more is done than the budget

@@ -1,7 +1,8 @@
 -- What the functions of the round call ask of their callers and promise one another; no public call's contract cites it.
 use mathlib.Core.Path.{_≡_}
 use mathlib.Core.List.{List, _++_, map}
-use Prim.Native.Nat.{ℕ, _*_}
+use mathlib.Core.Option.{none}
+use Prim.Native.Nat.{ℕ, zero, suc, _*_}
 use lib.IntN.{ℤ}
 use lib.ListN.{take, drop}
 use Rattle.lists.specs.Lists.{each, upto}
@@ -9,17 +10,39 @@ use Rattle.totals.specs.Totals.{totalOf}
 use Rattle.geometry.specs.declared.Rect.{Rect}
 use Rattle.plan.specs.declared.Shape.{Shape}
 use Rattle.plan.specs.Plan.{sizesOf, grown, Sound}
+use Rattle.plan.specs.Causes.{_orElse_}
 use Rattle.sweep.specs.Sweep.{orderCause}
 use Rattle.search.specs.declared.Stop.{Stop}
 use Rattle.search.specs.declared.Stop.the-variants.{Refused}
 use Rattle.paging.specs.declared.Page.{Page}
 use Rattle.paging.specs.declared.Ticket.{Ticket}
 use Rattle.paging.specs.Overlays.{Overlay}
+use Rattle.paging.specs.Calls.{pageCause}
 use Rattle.slots.specs.declared.Frame.{Frame}
 use Rattle.slots.specs.Frames.{frameSizes}
 use Rattle.pager.specs.Answers.{PagedAt}
 use Rattle.rounds.specs.declared.Round.{Round}
-use Rattle.rounds.specs.Rounds.{Request, partSize, countedAt, filledAt, answerAt, roundCall, roundCounters, roundTable}
+use Rattle.rounds.specs.Rounds.{Request, ticketOf, counterOf, partSize, countedAt, filledAt, answerAt, roundCall, roundCounters, roundTable}
+
+-- the request of a round with these arguments
+abbrev pub request : Shape → List ℤ → List ℕ → (clients first budget : ℕ) → List Ticket → (counters table : List ℕ) → Request
+request s cells order m first budget tickets counters table = record {
+  shape = s;
+  cells = cells;
+  order = order;
+  clients = m;
+  first = first;
+  budget = budget;
+  tickets = tickets;
+  counters = counters;
+  table = table;
+}
+
+-- the first cause that refuses one of n clients from t on
+abbrev pub causeFrom : Shape → List ℤ → (order : List ℕ) → List Ticket → (counters : List ℕ) → (t n : ℕ) → ℕ
+causeFrom s cells order tickets counters t zero = 0
+causeFrom s cells order tickets counters t (suc n) =
+    pageCause none s cells order (ticketOf tickets t) (counterOf counters t) orElse causeFrom s cells order tickets counters (suc t) n
 
 -- a page that did nothing
 abbrev pub emptyPage : Stop → Ticket → Page

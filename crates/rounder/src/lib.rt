@@ -26,8 +26,8 @@ ghost use Rattle.plan.specs.Frames.{Framed};
 ghost use Rattle.sweep.specs.Sweep.{sweepOrder};
 ghost use Rattle.slots.specs.Frames.{Framing};
 ghost use Rattle.pager.specs.Answers.{OverGrown};
-ghost use Rattle.rounds.specs.Rounds.{request, fits, clientsCause, roundCall, roundCounters, roundTable};
-ghost use Rattle.rounder.specs.Parts.{refusedRound, OnPlans, RoundAnswered};
+ghost use Rattle.rounds.specs.Rounds.{Request, fits, roundCall, roundCounters, roundTable};
+ghost use Rattle.rounder.specs.Parts.{request, causeFrom, refusedRound, OnPlans, RoundAnswered};
 
 // A round: m clients, served in turn from a given first one, each with its ticket, its counter and its part of the table, within a budget of probes in all.
 pub fn round(
@@ -41,9 +41,18 @@ pub fn round(
     counters: &mut [u64],
     table: &mut [u32],
 ) -> Round
-    ensures answer { λ r. ⌜ r ≡ roundCall (request shape (now (cells .entry)) (now (order .entry)) m first budget tickets (now (counters .entry)) (now (table .entry))) ⌝ }
-    ensures counters { λ _. ⌜ now (counters .exit) ≡ roundCounters (request shape (now (cells .entry)) (now (order .entry)) m first budget tickets (now (counters .entry)) (now (table .entry))) ⌝ }
-    ensures table { λ _. ⌜ now (table .exit) ≡ roundTable (request shape (now (cells .entry)) (now (order .entry)) m first budget tickets (now (counters .entry)) (now (table .entry))) ⌝ }
+    ensures { λ r. let q : Request = record {
+      shape = shape;
+      cells = now (cells .entry);
+      order = now (order .entry);
+      clients = m;
+      first = first;
+      budget = budget;
+      tickets = tickets;
+      counters = now (counters .entry);
+      table = now (table .entry);
+    } in
+        ⌜ (r ≡ roundCall q) × ((now (counters .exit) ≡ roundCounters q) × (now (table .exit) ≡ roundTable q)) ⌝ }
 {
     let cause = plan_cause(shape, cells);
     if cause != 0 {
@@ -88,7 +97,9 @@ fn round_over(
     table: &mut [u32],
 ) -> Round
     requires { ⌜ (shape .k ≤ length (shape .sizes)) × Framed (sizesOf shape) (now grown) ⌝ }
-    ensures { λ r. ⌜ OverGrown shape (now (grown .entry)) (λ cells. RoundAnswered (request shape cells (now (order .entry)) m first budget tickets (now (counters .entry)) (now (table .entry))) r (now (counters .exit)) (now (table .exit))) ⌝ }
+    ensures { λ r. ⌜ OverGrown shape (now (grown .entry)) (λ cells.
+        RoundAnswered (request shape cells (now (order .entry)) m first budget tickets (now (counters .entry)) (now (table .entry)))
+        r (now (counters .exit)) (now (table .exit))) ⌝ }
 {
     if !is_order(grown, order) {
         return refused_round(5, tickets);
@@ -119,7 +130,9 @@ fn round_grown(
     table: &mut [u32],
 ) -> Round
     requires { ⌜ Sound shape (now cells) ⌝ }
-    ensures { λ r. ⌜ RoundAnswered (request shape (now (cells .entry)) (now (order .entry)) m first budget tickets (now (counters .entry)) (now (table .entry))) r (now (counters .exit)) (now (table .exit)) ⌝ }
+    ensures { λ r. ⌜ RoundAnswered
+        (request shape (now (cells .entry)) (now (order .entry)) m first budget tickets (now (counters .entry)) (now (table .entry)))
+        r (now (counters .exit)) (now (table .exit)) ⌝ }
 {
     let mut run = [0i32; MOST_CELLS];
     grow_plan(shape, cells, &mut run);
@@ -181,7 +194,8 @@ fn clients_cause(
 ) -> u32
     requires { ⌜ Framing frame (now cells) × (now order ≡ sweepOrder (now cells)) × (frame .timed ≡ false) ⌝ }
     requires { ⌜ (m ≤ 16) × (m ≤ length (now counters)) ⌝ }
-    ensures { λ r. ⌜ OnPlans (now (order .entry)) (now (cells .entry)) frame (λ s plain. r ≡ clientsCause s plain (now (order .entry)) tickets (now (counters .entry)) 1 m) ⌝ }
+    ensures { λ r. ⌜ OnPlans (now (order .entry)) (now (cells .entry)) frame (λ s plain.
+        r ≡ causeFrom s plain (now (order .entry)) tickets (now (counters .entry)) 1 m) ⌝ }
 {
     let mut i: usize = 0;
     while i < m {
@@ -209,7 +223,9 @@ fn round_on(
     table: &mut [u32],
 ) -> Round
     requires { ⌜ Framing frame (now cells) × (now order ≡ sweepOrder (now cells)) × (frame .timed ≡ false) ⌝ }
-    ensures { λ r. ⌜ OnPlans (now (order .entry)) (now (cells .entry)) frame (λ s plain. RoundAnswered (request s plain (now (order .entry)) m first budget tickets (now (counters .entry)) (now (table .entry))) r (now (counters .exit)) (now (table .exit))) ⌝ }
+    ensures { λ r. ⌜ OnPlans (now (order .entry)) (now (cells .entry)) frame (λ s plain.
+        RoundAnswered (request s plain (now (order .entry)) m first budget tickets (now (counters .entry)) (now (table .entry)))
+        r (now (counters .exit)) (now (table .exit))) ⌝ }
 {
     if !is_fitting(m, first, budget, counters.len()) {
         return refused_round(22, tickets);

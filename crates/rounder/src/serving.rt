@@ -14,8 +14,8 @@ ghost use Rattle.sweep.specs.Sweep.{sweepOrder};
 ghost use Rattle.slots.specs.Frames.{Framing};
 ghost use Rattle.pager.specs.Answers.{plainOverlay};
 ghost use Rattle.rounds.specs.Shares.{after};
-ghost use Rattle.rounds.specs.Rounds.{request, ticketOf};
-ghost use Rattle.rounder.specs.Parts.{emptyPage, OnPlans, OneServed, AllServed};
+ghost use Rattle.rounds.specs.Rounds.{ticketOf};
+ghost use Rattle.rounder.specs.Parts.{request, emptyPage, OnPlans, OneServed, AllServed};
 
 // The client after t of m.
 pub fn after_client(m: u32, t: u32) -> u32
@@ -78,7 +78,8 @@ fn serve_one(
 ) -> Page
     requires { ⌜ Framing frame (now cells) × (now order ≡ sweepOrder (now cells)) × (frame .timed ≡ false) ⌝ }
     requires { ⌜ (at < 16) × (at < length (now counters)) × (at * size + size ≤ length (now table)) ⌝ }
-    ensures { λ r. ⌜ OneServed (plainOverlay frame (now (cells .entry))) (ticketOf tickets (suc at)) at size budget (now (counters .entry)) (now (table .entry)) r (now (counters .exit)) (now (table .exit)) ⌝ }
+    ensures { λ r. ⌜ OneServed (plainOverlay frame (now (cells .entry))) (ticketOf tickets (suc at)) at size budget
+        (now (counters .entry)) (now (table .entry)) r (now (counters .exit)) (now (table .exit)) ⌝ }
 {
     let ticket = tickets[at];
     let next = at + 1;
@@ -109,7 +110,9 @@ pub fn serve_all(
 ) -> [Page; 16]
     requires { ⌜ Framing frame (now cells) × (now order ≡ sweepOrder (now cells)) × (frame .timed ≡ false) ⌝ }
     requires { ⌜ (m ≤ 16) × (1 ≤ first) × (first ≤ m) × (length (now counters) ≡ m) ⌝ }
-    ensures { λ r. ⌜ OnPlans (now (order .entry)) (now (cells .entry)) frame (λ s plain. AllServed (request s plain (now (order .entry)) m first budget tickets (now (counters .entry)) (now (table .entry))) r (now (counters .exit)) (now (table .exit))) ⌝ }
+    ensures { λ r. ⌜ OnPlans (now (order .entry)) (now (cells .entry)) frame (λ s plain.
+        AllServed (request s plain (now (order .entry)) m first budget tickets (now (counters .entry)) (now (table .entry)))
+        r (now (counters .exit)) (now (table .exit))) ⌝ }
 {
     let size = part_size(frame.k, m as usize, table.len());
     let mut pages = empty_pages(Stop::Spent, tickets);

@@ -8,33 +8,33 @@ use Rattle.plan.specs.Plan.{Typed}
 use Rattle.search.specs.Traversal.{rowOf}
 use Rattle.search.proofs.Paging.{page-budget}
 use Rattle.paging.specs.Cursors.{resume}
-use Rattle.paging.specs.Overlays.{Overlay}
 use Rattle.paging.specs.Pages.{room}
-use Rattle.paging.specs.Calls.{pageCallOn}
-use Rattle.paging.specs.Theorems.{Call, served}
-use Rattle.paging.proofs.Serving.{servedOn, firstOf, of-served}
-use Rattle.paging.proofs.Theorems.{demand3}
+use Rattle.paging.specs.Calls.{pageCall}
+use Rattle.paging.specs.Inner.{pageCallOn}
+use Rattle.paging.specs.Theorems.{Call, overlayAt, cause, answer, after, counted}
+use Rattle.paging.proofs.Theorems.{answers, page-left}
 
 module _ (x : Call) where
   -- "No call reports more trials than its budget."
-  pub probes-few : served x .answer .probes ≤ x .budget
-  probes-few = of-served (λ v. v .answer .probes ≤ x .budget) x (go _ (servedOn _ (firstOf x) x .cause))
+  pub probes-few : answer x .probes ≤ x .budget
+  unfolding pageCall
+  probes-few = go (cause x)
     where
-      go : {S : Type 0} (o : Overlay S) (n : ℕ) → pageCallOn o n (x .ticket) (x .budget) (x .table) .probes ≤ x .budget
-      go o zero = page-budget rowOf (x .budget) (room o (x .table)) (listIn (resume o (x .ticket .cursor)))
-      go o (suc n) = omega arith
+      go : (n : ℕ) → pageCallOn (overlayAt x) n (x .ticket) (x .budget) (x .table) .probes ≤ x .budget
+      go zero = page-budget rowOf (x .budget) (room (overlayAt x) (x .table)) (listIn (resume (overlayAt x) (x .ticket .cursor)))
+      go (suc n) = omega arith
 
   module _ (typed : Typed (x .shape)) where
-    pub table-long : length (served x .after) ≡ length (x .table)
-    table-long = go (served x .cause) refl
+    pub table-long : length (after x) ≡ length (x .table)
+    table-long = go (cause x) refl
       where
-        go : (n : ℕ) → served x .cause ≡ n → length (served x .after) ≡ length (x .table)
-        go zero e = demand3 .page x typed e .2 .long
-        go (suc n) e = ap length (demand3 .refused x .page n e .1)
+        go : (n : ℕ) → cause x ≡ n → length (after x) ≡ length (x .table)
+        go zero e = page-left x typed e .2 .long
+        go (suc n) e = ap length (answers .page-refused x n e .1)
 
-    pub counter-long : length (x .counter) ≡ 1 → length (served x .counted) ≡ 1
-    counter-long h = go (served x .cause) refl
+    pub counter-long : length (x .counter) ≡ 1 → length (counted x) ≡ 1
+    counter-long h = go (cause x) refl
       where
-        go : (n : ℕ) → served x .cause ≡ n → length (served x .counted) ≡ 1
-        go zero e = ap length (demand3 .page x typed e .2 .counted)
-        go (suc n) e = ap length (demand3 .refused x .page n e .2) ∙ h
+        go : (n : ℕ) → cause x ≡ n → length (counted x) ≡ 1
+        go zero e = ap length (page-left x typed e .2 .counter)
+        go (suc n) e = ap length (answers .page-refused x n e .2) ∙ h

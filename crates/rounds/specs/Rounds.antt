@@ -1,6 +1,7 @@
 -- What a round answers (02, Q-10), over what the page call answers. Clients are 02's tablets, counters its run records.
 use mathlib.Core.List.{List, _++_, map}
 use mathlib.Core.Bool.{Bool, cond, _&&_}
+use mathlib.Core.Option.{none}
 use Prim.Native.Nat.{ℕ, zero, suc, _-_, _*_, _/_}
 use lib.IntN.{ℤ}
 use lib.Dec.{eqb, leb}
@@ -30,10 +31,6 @@ pub record Request : Type 0 where
   pub counters : List ℕ
   pub table : List ℕ
 
-abbrev pub request : Shape → List ℤ → List ℕ → (clients first budget : ℕ) → List Ticket → (counters table : List ℕ) → Request
-request s cells order m first budget tickets counters table =
-    record { shape = s; cells = cells; order = order; clients = m; first = first; budget = budget; tickets = tickets; counters = counters; table = table }
-
 -- 02: "past m the ticket comes back as given, the stop is Spent and all else 0"
 abbrev pub idlePage : Ticket → Page
 idlePage t = record { stop = Spent; rows = 0; probes = 0; area = totalOf 0; ticket = t }
@@ -51,11 +48,6 @@ counterOf counters t = take 1 (drop (t - 1) counters)
 unfoldable pub fits : (m first budget records : ℕ) → Bool
 fits m first budget records = leb 1 m && (leb m 16 && (leb 1 first && (leb first m && (leb budget 4294967295 && eqb records m))))
 
--- 02: "then 6 and 18 for each tablet, the lowest tablet deciding", of n clients from t on: the causes of their page calls
-abbrev pub clientsCause : Shape → List ℤ → (order : List ℕ) → List Ticket → (counters : List ℕ) → (t n : ℕ) → ℕ
-clientsCause s cells order tickets counters t zero = 0
-clientsCause s cells order tickets counters t (suc n) = pageCause s cells order (ticketOf tickets t) (counterOf counters t) orElse clientsCause s cells order tickets counters (suc t) n
-
 module _ (q : Request) where
   abbrev pub ticketAt : (t : ℕ) → Ticket
   ticketAt t = ticketOf (q .tickets) t
@@ -71,14 +63,22 @@ module _ (q : Request) where
   abbrev pub partAt : (t : ℕ) → List ℕ
   partAt t = take partSize (drop ((t - 1) * partSize) (q .table))
 
+  -- 02: "then 6 and 18 for each tablet, the lowest tablet deciding", of n clients from t on: the causes of their page calls
+  abbrev pub clientsCause : (t n : ℕ) → ℕ
+  clientsCause t zero = 0
+  clientsCause t (suc n) = pageCause none (q .shape) (q .cells) (q .order) (ticketAt t) (counterAt t) orElse clientsCause (suc t) n
+
   -- the checks: 1 2 17 3 4 5, 22, then those of the clients
   unfoldable pub roundCause : ℕ
-  roundCause = orderCause (q .shape) (q .cells) (q .order) orElse unless (fits (q .clients) (q .first) (q .budget) (length (q .counters))) 22 orElse clientsCause (q .shape) (q .cells) (q .order) (q .tickets) (q .counters) 1 (q .clients)
+  roundCause =
+      orderCause (q .shape) (q .cells) (q .order)
+      orElse unless (fits (q .clients) (q .first) (q .budget) (length (q .counters))) 22
+      orElse clientsCause 1 (q .clients)
 
   -- ---- the page calls
   -- the probes that client t does with a budget of b
   unfoldable pub probesOf : (t b : ℕ) → ℕ
-  probesOf t b = pageCall (q .shape) (q .cells) (q .order) (ticketAt t) (counterAt t) b (partAt t) .probes
+  probesOf t b = pageCall none (q .shape) (q .cells) (q .order) (ticketAt t) (counterAt t) b (partAt t) .probes
 
   -- the budget of client t: what it is offered
   abbrev pub budgetAt : (t : ℕ) → ℕ
@@ -86,24 +86,25 @@ module _ (q : Request) where
 
   -- 02: each "makes one page call with that": its answer, its counter and its part afterwards
   abbrev pub pageAt : (t : ℕ) → Page
-  pageAt t = pageCall (q .shape) (q .cells) (q .order) (ticketAt t) (counterAt t) (budgetAt t) (partAt t)
+  pageAt t = pageCall none (q .shape) (q .cells) (q .order) (ticketAt t) (counterAt t) (budgetAt t) (partAt t)
 
   abbrev pub countedAt : (t : ℕ) → List ℕ
-  countedAt t = pageCounter (q .shape) (q .cells) (q .order) (ticketAt t) (counterAt t) (budgetAt t) (partAt t)
+  countedAt t = pageCounter none (q .shape) (q .cells) (q .order) (ticketAt t) (counterAt t) (budgetAt t) (partAt t)
 
   abbrev pub filledAt : (t : ℕ) → List ℕ
-  filledAt t = pageTable (q .shape) (q .cells) (q .order) (ticketAt t) (counterAt t) (budgetAt t) (partAt t)
+  filledAt t = pageTable none (q .shape) (q .cells) (q .order) (ticketAt t) (counterAt t) (budgetAt t) (partAt t)
 
   -- what client t gets, of sixteen
   abbrev pub answerAt : (t : ℕ) → Page
   answerAt t = cond (leb t (q .clients)) (pageAt t) (idlePage (ticketAt t))
 
   -- ---- the round
-  -- 02: "The next round starts with the tablet after this first one (1 after m), returned with each tablet's page answer". "A refused round .. returns, beside its number,
-  -- every ticket as given and each stop as a refusal with that number"; 01: and 0 for all else
+  -- 02: "The next round starts with the tablet after this first one (1 after m), returned with each tablet's page answer". "A refused round .. returns, beside
+  -- its number, every ticket as given and each stop as a refusal with that number"; 01: and 0 for all else
   unfoldable pub roundCall : Round
   roundCall =
-      onCause roundCause (record { number = 0; next = after (q .clients) (q .first); pages = upto answerAt 1 16 }) (λ n. record { number = n; next = 0; pages = map (λ t. refusedPage t n) (q .tickets) })
+      onCause roundCause (record { number = 0; next = after (q .clients) (q .first); pages = upto answerAt 1 16 })
+      (λ n. record { number = n; next = 0; pages = map (λ t. refusedPage t n) (q .tickets) })
 
   -- the counters afterwards; a "refused round alters nothing"
   unfoldable pub roundCounters : List ℕ

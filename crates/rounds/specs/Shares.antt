@@ -26,4 +26,4 @@ module _ (did : ℕ → ℕ → ℕ) (m first budget : ℕ) where
 
   -- 02: "Each is offered the trials left divided by the tablets still to serve, rounded down"
   abbrev pub offered : (t : ℕ) → ℕ
-  offered t = leftBehind (turnOf m first t) / (m - turnOf m first t)
+  offered t = let i = turnOf m first t in leftBehind i / (m - i)

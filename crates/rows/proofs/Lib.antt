@@ -3,3 +3,5 @@ pub mod Layers
 pub mod Grounds
 pub mod Answers
 pub mod Theorems
+pub mod Tables
+pub mod TableRows

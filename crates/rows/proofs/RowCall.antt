@@ -42,7 +42,7 @@ fits-within (l ∷ ls) [] e = clash e refl
 fits-within (l ∷ ls) (p ∷ row) e =
     let h = both (ltb p (l .size)) (fits (sizesIn ls) row) e in _below_ (ltb-true p (l .size) (h .0)) (fits-within ls row (h .1))
 
-within-fits : {ls : List Layer} {row : List ℕ} → Within ls row → fits (sizesIn ls) row ≡ true
+pub within-fits : {ls : List Layer} {row : List ℕ} → Within ls row → fits (sizesIn ls) row ≡ true
 within-fits no-layer = refl
 within-fits (_below_ {l = l} {p = p} h hs) = and-true (ltb p (l .size)) _ (lt-ltb p (l .size) h) (within-fits hs)
 

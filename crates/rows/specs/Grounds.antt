@@ -20,7 +20,8 @@ use Rattle.rows.specs.RowCall.{isRow}
 -- the ground with one rectangle more, that of layer i: the guard is the first of the greatest lefts
 unfoldable pub takeIn : Ground → Rect → ℕ → Sharing
 takeIn g r i =
-    cond (meets (g .common) r) (Shared (record { common = common (g .common) r; kind = kindOf (common (g .common) r); guard = cond (ltZ (g .common .left) (r .left)) i (g .guard) })) Nothing
+    let c = common (g .common) r in
+    cond (meets (g .common) r) (Shared (record { common = c; kind = kindOf c; guard = cond (ltZ (g .common .left) (r .left)) i (g .guard) })) Nothing
 
 -- the ground of rectangles: their intersection, its kind, and the guard's layer from 0
 abbrev pub groundBy : List Rect → Ground

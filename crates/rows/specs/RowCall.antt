@@ -2,8 +2,9 @@
 use mathlib.Core.List.{List, [], _∷_}
 use mathlib.Core.Bool.{Bool, true, false, cond, _&&_}
 use Prim.Native.Nat.{ℕ, suc}
-use lib.IntN.{ℤ, pos}
+use lib.IntN.{ℤ}
 use lib.Dec.{ltb}
+use Rattle.geometry.specs.declared.Rect.{Rect}
 use Rattle.geometry.specs.Rectangles.{nonempty, letterOf}
 use Rattle.plan.specs.declared.Shape.{Shape}
 use Rattle.plan.specs.Causes.{onCause}
@@ -12,7 +13,7 @@ use Rattle.rows.specs.declared.RowAnswer.{RowAnswer}
 use Rattle.rows.specs.declared.RowAnswer.the-variants.{Refused, NoRow, Row}
 use Rattle.rows.specs.declared.CommonAnswer.{CommonAnswer}
 use Rattle.rows.specs.declared.CommonAnswer.the-variants as told
-use Rattle.join.specs.Join.{rects, commonOf, areaIn, kindIn, guardLayer}
+use Rattle.join.specs.Join.{rects, noRect, commonIn, areaIn, kindIn, guardLayer}
 use Rattle.join.specs.Table.{sizesIn}
 
 -- one place for each size, below it
@@ -24,11 +25,13 @@ fits (n ∷ ns) (p ∷ row) = ltb p n && fits ns row
 
 -- the cells name a row of J (specs/Theorems.antt, `names`): they fit, and their rectangles have something in common
 unfoldable pub isRow : List Layer → List ℕ → Bool
-isRow ls row = fits (sizesIn ls) row && nonempty (commonOf (rects ls row))
+isRow ls row = fits (sizesIn ls) row && nonempty (commonIn ls row)
 
 -- the row call; its checks are 1 2 17 3 4. 01: "Where they are not k cells or name no row of J, it returns layer 0 and area 0."
 unfoldable pub rowCall : Shape → List ℤ → List ℕ → RowAnswer
-rowCall s cells row = let ls = layers s cells in onCause (planCause s cells) (cond (isRow ls row) (Row (suc (guardLayer (rects ls row))) (areaIn ls row)) NoRow) (λ n. Refused n)
+rowCall s cells row =
+    let ls = layers s cells in
+    onCause (planCause s cells) (cond (isRow ls row) (Row (suc (guardLayer (rects ls row))) (areaIn ls row)) NoRow) (λ n. Refused n)
 
 -- 01's number and values of each answer: the cause or 0, the guard's layer from 1, the area
 pub record RowValues : Type 0 where
@@ -43,18 +46,17 @@ rowValues (Row layer area) = record { number = 0; layer = layer; area = area }
 
 -- ---- the call for a row's common ground (02, Q-7), with the checks of the row call
 unfoldable pub commonCall : Shape → List ℤ → List ℕ → CommonAnswer
-commonCall s cells row = let ls = layers s cells in onCause (planCause s cells) (cond (isRow ls row) (told.Common (commonOf (rects ls row)) (kindIn ls row)) told.NoRow) (λ n. told.Refused n)
+commonCall s cells row =
+    let ls = layers s cells in
+    onCause (planCause s cells) (cond (isRow ls row) (told.Common (commonIn ls row) (kindIn ls row)) told.NoRow) (λ n. told.Refused n)
 
--- the number and values of each answer: the cause or 0, the letter of the kind and the four sides. Kind 0 is the mark of no row
+-- the number and values of each answer: the cause or 0, the letter of the kind and the rectangle. Kind 0 is the mark of no row
 pub record CommonValues : Type 0 where
   pub number : ℕ
   pub kind : ℕ
-  pub left : ℤ
-  pub bottom : ℤ
-  pub right : ℤ
-  pub top : ℤ
+  pub common : Rect
 
 abbrev pub commonValues : CommonAnswer → CommonValues
-commonValues (told.Refused cause) = record { number = cause; kind = 0; left = pos 0; bottom = pos 0; right = pos 0; top = pos 0 }
-commonValues told.NoRow = record { number = 0; kind = 0; left = pos 0; bottom = pos 0; right = pos 0; top = pos 0 }
-commonValues (told.Common r k) = record { number = 0; kind = letterOf k; left = r .left; bottom = r .bottom; right = r .right; top = r .top }
+commonValues (told.Refused cause) = record { number = cause; kind = 0; common = noRect }
+commonValues told.NoRow = record { number = 0; kind = 0; common = noRect }
+commonValues (told.Common r k) = record { number = 0; kind = letterOf k; common = r }

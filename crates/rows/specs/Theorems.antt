@@ -6,35 +6,33 @@ use mathlib.Core.List.{List, List·Memᴰ}
 use mathlib.Core.Logic.{_↔_}
 use Prim.Native.Nat.{ℕ, suc}
 use lib.IntN.{ℤ, pos}
+use Rattle.geometry.specs.declared.Rect.{Rect}
 use Rattle.geometry.specs.Rectangles.{letterOf}
 use Rattle.plan.specs.declared.Shape.{Shape}
-use Rattle.plan.specs.Plan.{sizesOf, layers, planCause, Sound, grown}
-use Rattle.join.specs.Join.{rects, InJoin, commonOf, areaIn, kindIn, guardOf}
-use Rattle.join.specs.Table.{tableOf}
-use Rattle.rows.specs.RowCall.{isRow, rowCall, rowValues, commonCall, CommonValues, commonValues}
+use Rattle.plan.specs.Plan.{layers, planCause, Sound}
+use Rattle.join.specs.Join.{InJoin, commonIn, areaIn, kindIn, guardOf}
+use Rattle.join.specs.Table.{planTable}
+use Rattle.rows.specs.RowCall.{isRow, rowCall, rowValues, commonCall, commonValues}
 
--- a number and 0 for all else
-abbrev pub onlyNumber : ℕ → CommonValues
-onlyNumber n = record { number = n; kind = 0; left = pos 0; bottom = pos 0; right = pos 0; top = pos 0 }
+-- what both calls return: the number, the guard's layer and the area; the number, the letter of the kind and the rectangle
+pub record Returned (s : Shape) (cells : List ℤ) (row : List ℕ) (number layer area kind : ℕ) (ground : Rect) : Type 0 where
+  pub call : rowValues (rowCall s cells row) ≡ record { number = number; layer = layer; area = area }
+  pub common : commonValues (commonCall s cells row) ≡ record { number = number; kind = kind; common = ground }
+
+-- 0 for each of the four sides
+abbrev pub allZero : Rect
+allZero = record { left = pos 0; bottom = pos 0; right = pos 0; top = pos 0 }
 
 pub record RowsHold (s : Shape) (cells : List ℤ) : Type 0 where
-  -- the row call's test is membership in J
+  -- the calls' test is membership in J
   pub names : (row : List ℕ) → (isRow (layers s cells) row ≡ true) ↔ InJoin (layers s cells) row
-  -- it returns the guard's layer, from 1, and the area of a row
-  pub call : (row : List ℕ) → List·Memᴰ row (tableOf (sizesOf s) (grown s cells))
-      → rowValues (rowCall s cells row) ≡ record { number = 0; layer = suc (guardOf (layers s cells) row .layer); area = areaIn (layers s cells) row }
-  -- ... and layer 0 and area 0 for all else
-  pub others : (row : List ℕ) → (List·Memᴰ row (tableOf (sizesOf s) (grown s cells)) → ⊥) → rowValues (rowCall s cells row) ≡ record { number = 0; layer = 0; area = 0 }
-  -- 02, Q-7: the other call returns the four sides of the row's common ground and the letter of its kind, which is never 0
-  pub ground : (row : List ℕ) → List·Memᴰ row (tableOf (sizesOf s) (grown s cells))
-      → let b = commonOf (rects (layers s cells) row) in
-      commonValues (commonCall s cells row) ≡ record { number = 0; kind = letterOf (kindIn (layers s cells) row); left = b .left; bottom = b .bottom; right = b .right; top = b .top }
-  pub marked : (row : List ℕ) → List·Memᴰ row (tableOf (sizesOf s) (grown s cells)) → commonValues (commonCall s cells row) .kind ≡ 0 → ⊥
-  -- ... and kind 0 and sides 0 for all else
-  pub no-ground : (row : List ℕ) → (List·Memᴰ row (tableOf (sizesOf s) (grown s cells)) → ⊥) → commonValues (commonCall s cells row) ≡ onlyNumber 0
+  -- of a row they return the guard's layer, from 1, and the area; 02, Q-7: the letter of its kind, which is never 0 (geometry, `letters`), and its ground
+  pub told : (row : List ℕ) → List·Memᴰ row (planTable s cells) → let ls = layers s cells in
+      Returned s cells row 0 (suc (guardOf ls row .layer)) (areaIn ls row) (letterOf (kindIn ls row)) (commonIn ls row)
+  -- ... and 0 for all else
+  pub others : (row : List ℕ) → (List·Memᴰ row (planTable s cells) → ⊥) → Returned s cells row 0 0 0 0 allZero
 
 pub record Rows : Type 0 where
   pub rows : (s : Shape) (cells : List ℤ) → Sound s cells → RowsHold s cells
   -- 01: "A refusal returns its number and 0 for all else"
-  pub refused : (s : Shape) (cells : List ℤ) (n : ℕ) → planCause s cells ≡ suc n → (row : List ℕ) → rowValues (rowCall s cells row) ≡ record { number = suc n; layer = 0; area = 0 }
-  pub refused-ground : (s : Shape) (cells : List ℤ) (n : ℕ) → planCause s cells ≡ suc n → (row : List ℕ) → commonValues (commonCall s cells row) ≡ onlyNumber (suc n)
+  pub refused : (s : Shape) (cells : List ℤ) (n : ℕ) → planCause s cells ≡ suc n → (row : List ℕ) → Returned s cells row (suc n) 0 0 0 allZero

@@ -9,3 +9,4 @@ pub mod Zipper
 pub mod Positions
 pub mod Turns
 pub mod Narrowing
+pub mod Beside

@@ -87,7 +87,7 @@ pub fn near_cells(answer: NearestAnswer) -> [u64; 18]
     ]
 }
 
-// The first of the causes 1 to 4, 17 and 14 that applies, or 0.
+// The first of the causes 1 2 17 3 4 14 that applies, or 0.
 fn nearest_cause(shape: Shape, cells: &[i32], around: Rect) -> u32
     ensures { λ r. ⌜ r ≡ nearestCause shape (now (cells .entry)) around ⌝ }
 {

@@ -20,8 +20,8 @@ use Rattle.join.proofs.Theorems.{tables}
 use Rattle.rows.proofs.RowCall.{is-row}
 use Rattle.ground.specs.Union.{grounds}
 use Rattle.ground.proofs.Tables.{table-lefts}
-use Rattle.paging.specs.Theorems.{rowsIn}
-use Rattle.paging.specs.TableRows.{TableRows}
+use Rattle.rows.specs.Tables.{rowsIn}
+use Rattle.rows.specs.TableRows.{TableRows}
 
 -- what holds of pairs of images
 pairwise-under : {A B : Type 0} {R : B → B → Type 0} (g : A → B) (l : List A) → Pairwise R (map g l) → Pairwise (λ a b. R (g a) (g b)) l

@@ -20,8 +20,8 @@ use Rattle.survey.specs.declared.Strip.{Strip}
 use Rattle.survey.specs.declared.Covering.{Covering}
 use Rattle.survey.specs.declared.Covering.the-variants.{Kept, Refused}
 use Rattle.survey.specs.Strips.{soundStrip}
-use Rattle.survey.specs.Records.{records, allSound, kept, coverCells}
-use Rattle.survey.specs.CoverCall.{inputCause, coverCause, layerOf, coverAnswer, coverAfter, coverValues}
+use Rattle.survey.specs.Records.{records, allSound, coverCells}
+use Rattle.survey.specs.CoverCall.{inputCause, kept, coverCause, layerOf, coverAnswer, coverAfter, coverValues}
 use Rattle.survey.specs.Puts.{LayerFits}
 
 -- four cells a record
@@ -53,12 +53,13 @@ module _ (across upward : Strip) (corners : List Float) where
   module _ (cells : List ℤ) where
     abbrev Answered : Covering → List ℤ → Type 0
     Answered r after =
-        (r ≡ coverAnswer across upward corners (length cells)) × ((coverValues r .number ≡ coverCause across upward corners (length cells)) × (after ≡ coverAfter across upward corners cells))
+        let told = coverAnswer across upward corners (length cells) in
+        (r ≡ told) × ((coverValues r ≡ coverValues told) × ((coverValues r .number ≡ coverCause across upward corners (length cells)) × (after ≡ coverAfter across upward corners cells)))
 
     refused : (cause : ℕ) → (cause ≡ 0 → ⊥) → coverCause across upward corners (length cells) ≡ cause → Answered (Refused cause) cells
     unfolding coverAnswer coverAfter
     refused zero n e = absurd (n refl)
-    refused (suc cause) n e = rw e (refl, (refl, refl))
+    refused (suc cause) n e = rw e (refl, (refl, (refl, refl)))
 
     pub input-bad : (cause : ℕ) → (cause ≡ 0 → ⊥) → cause ≡ inputCause across upward corners → Answered (Refused cause) cells
     unfolding coverCause
@@ -89,4 +90,4 @@ module _ (across upward : Strip) (corners : List Float) where
         covered last r p =
             let e : coverCause across upward corners (length cells) ≡ 0 = rw (sym good, sym counted, le-leb n mostSize few, le-leb (4 * n) (length cells) room) in
             let w = put-start cells last (layerOf across upward corners) r (omega (arith, cells-long (kept across upward corners))) p in
-            rw (e, counted) (refl, (refl, w))
+            rw (e, counted) (refl, (refl, (refl, w)))

@@ -11,21 +11,17 @@ use Rattle.geometry.specs.Rectangles.{inRange}
 use Rattle.geometry.proofs.Integers.{zarith}
 use Rattle.geometry.proofs.Rectangles.{ranged}
 use Rattle.floats.specs.Values.{finite, exact, floorOf, ceilOf}
-use Rattle.floats.specs.Theorems.{Finite, AtMost}
+use Rattle.floats.specs.Theorems.{AtMost}
 use Rattle.floats.specs.Parts.{near, farthest}
 use Rattle.floats.proofs.Values.{so, le-trans, floor-from, ceil-from}
 use Rattle.floats.proofs.Patterns.{near-finite}
 use Rattle.survey.specs.declared.Corners.{Corners}
 use Rattle.survey.specs.Strips.{ordered}
 use Rattle.survey.specs.Records.{coverOf, soundRecord}
+use Rattle.survey.specs.Theorems.{Ordered}
 use Rattle.survey.specs.Puts.{spanned, Near}
 
 -- ---- two floats in order
-pub record Ordered (low high : Float) : Type 0 where
-  pub low-finite : Finite low
-  pub high-finite : Finite high
-  pub order : AtMost low high
-
 pub ordered→ : (low high : Float) → ordered low high ≡ true → Ordered low high
 ordered→ low high e =
     let h = both (finite low && finite high) (le low high) e in

@@ -17,8 +17,8 @@ use Rattle.lists.specs.Stores.{Put}
 use Rattle.lists.proofs.Stores.{Left, left-all, left-put, left-room, left-none}
 use Rattle.survey.specs.declared.Corners.{Corners}
 use Rattle.survey.specs.declared.Strip.{Strip}
-use Rattle.survey.specs.Records.{cornersAt, records, coverOf, soundRecord, allSound, keptBy, kept, coverCells}
-use Rattle.survey.specs.CoverCall.{layerOf}
+use Rattle.survey.specs.Records.{cornersAt, records, coverOf, soundRecord, allSound, keptBy, coverCells}
+use Rattle.survey.specs.CoverCall.{kept, layerOf}
 use Rattle.survey.specs.Puts.{cellsOf, RecordFits, LayerFits}
 
 -- ---- all records are sound

@@ -12,17 +12,15 @@ use Rattle.floats.proofs.Values.{so, le-trans, le-total, le-refl}
 use Rattle.survey.specs.declared.Strip.{Strip}
 use Rattle.survey.specs.declared.Strip.the-variants.{Free, From, To, Between}
 use Rattle.survey.specs.Strips.{soundStrip, meetsStrip}
-use Rattle.survey.specs.Theorems.{InStrip, Meets, SoundStops}
-use Rattle.survey.proofs.Covers.{Ordered, ordered→, →ordered}
+use Rattle.survey.specs.Theorems.{InStrip, Meets, Ordered, SoundStops}
+use Rattle.survey.proofs.Covers.{ordered→, →ordered}
 
 -- the test of 21
 pub stopped : (s : Strip) → Tells (SoundStops s) (soundStrip s)
 stopped Free = tells true (λ e. tt) (λ h. refl)
 stopped (From a) = tells (finite a) (so (finite a)) (is-true (finite a))
 stopped (To b) = tells (finite b) (so (finite b)) (is-true (finite b))
-stopped (Between a b) =
-    tells _ (λ e. let o = ordered→ a b e in (o .low-finite, o .high-finite, o .order))
-    (λ h. →ordered a b (record { low-finite = h .0; high-finite = h .1; order = h .2 }))
+stopped (Between a b) = tells _ (ordered→ a b) (→ordered a b)
 
 -- ---- meeting
 module _ (low high : Float) (o : Ordered low high) where
@@ -35,17 +33,17 @@ module _ (low high : Float) (o : Ordered low high) where
   meets→ (To b) k e = low-in (To b) (so (le low b) e)
   meets→ (Between a b) k e =
       let h = both (le a high) (le low b) e in
-      go (so (le a high) (h .0)) (so (le low b) (h .1)) (le-total a low (k .0) (o .low-finite))
+      go (so (le a high) (h .0)) (so (le low b) (h .1)) (le-total a low (k .low-finite) (o .low-finite))
     where
       -- the value is the greater of low and the lower stop
       go : AtMost a high → AtMost low b → AtMost a low ⊎ AtMost low a → Meets (Between a b) low high
       go p q (inl h) = low-in (Between a b) (h, q)
-      go p q (inr h) = record { value = a; is-finite = k .0; from-low = h; to-high = p; in-strip = (le-refl a (k .0), k .2) }
+      go p q (inr h) = record { value = a; is-finite = k .low-finite; from-low = h; to-high = p; in-strip = (le-refl a (k .low-finite), k .order) }
 
   pub →meets : (s : Strip) → SoundStops s → Meets s low high → meetsStrip s low high ≡ true
   →meets Free k m = refl
   →meets (From a) k m = is-true (le a high) (le-trans a (m .value) high k (m .is-finite) (o .high-finite) (m .in-strip) (m .to-high))
   →meets (To b) k m = is-true (le low b) (le-trans low (m .value) b (o .low-finite) (m .is-finite) k (m .from-low) (m .in-strip))
   →meets (Between a b) k m =
-      and-true (le a high) (le low b) (is-true (le a high) (le-trans a (m .value) high (k .0) (m .is-finite) (o .high-finite) (m .in-strip .0) (m .to-high)))
-      (is-true (le low b) (le-trans low (m .value) b (o .low-finite) (m .is-finite) (k .1) (m .from-low) (m .in-strip .1)))
+      and-true (le a high) (le low b) (is-true (le a high) (le-trans a (m .value) high (k .low-finite) (m .is-finite) (o .high-finite) (m .in-strip .0) (m .to-high)))
+      (is-true (le low b) (le-trans low (m .value) b (o .low-finite) (m .is-finite) (k .high-finite) (m .from-low) (m .in-strip .1)))

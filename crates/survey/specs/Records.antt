@@ -1,13 +1,14 @@
 -- Corner records (02, Q-9), their covers, and which of them are sound and kept.
-use mathlib.Core.List.{List, [], _∷_}
+use mathlib.Core.List.{List, [], _∷_, _++_}
 use mathlib.Core.Bool.{Bool, true, _&&_}
 use Prim.Native.Nat.{ℕ, _+_, _*_, _/_}
 use lib.IntN.{ℤ}
 use lib.ListN.{length, getD}
 use lib.Ieee.{Float, nan}
-use Rattle.lists.specs.Lists.{upto, keep}
+use Rattle.lists.specs.Lists.{upto}
 use Rattle.geometry.specs.declared.Rect.{Rect}
 use Rattle.geometry.specs.Rectangles.{inRange}
+use Rattle.plan.specs.Plan.{rectCells}
 use Rattle.floats.specs.Values.{floorOf, ceilOf}
 use Rattle.survey.specs.declared.Corners.{Corners}
 use Rattle.survey.specs.declared.Strip.{Strip}
@@ -39,11 +40,7 @@ allSound (c ∷ cs) = soundRecord c && allSound cs
 unfoldable pub keptBy : Strip → Strip → Corners → Bool
 keptBy across upward c = meetsStrip across (c .left) (c .right) && meetsStrip upward (c .bottom) (c .top)
 
--- the records that are kept, in their order
-abbrev pub kept : Strip → Strip → List Float → List Corners
-kept across upward s = keep (keptBy across upward) (records s)
-
 -- the cells of their covers: "left, bottom, right, top" (01, "The plan")
 abbrev pub coverCells : List Corners → List ℤ
 coverCells [] = []
-coverCells (c ∷ cs) = coverOf c .left ∷ coverOf c .bottom ∷ coverOf c .right ∷ coverOf c .top ∷ coverCells cs
+coverCells (c ∷ cs) = rectCells (coverOf c) ++ coverCells cs

@@ -7,7 +7,8 @@ ghost use mathlib.Core.Bool.{cond};
 ghost use Prim.Native.Nat.{_≤_};
 ghost use lib.ListN.{length};
 ghost use Rattle.survey.specs.Strips.{meetsStrip};
-ghost use Rattle.survey.specs.Records.{keptBy, kept};
+ghost use Rattle.survey.specs.Records.{keptBy};
+ghost use Rattle.survey.specs.CoverCall.{kept};
 
 // How many records are kept.
 pub fn count_kept(across: Strip, upward: Strip, corners: &[f64]) -> usize

@@ -19,6 +19,7 @@ ghost use Rattle.survey.specs.CoverCall.{inputCause, coverCause, coverAnswer, c
 // Puts the covers of the kept records into the first cells, or tells why not. The corners are four a record: left, bottom, right, top.
 pub fn cover_records(across: Strip, upward: Strip, corners: &[f64], cells: &mut [i32]) -> Covering
     ensures answer { λ r. ⌜ r ≡ coverAnswer across upward (now (corners .entry)) (length (now (cells .entry))) ⌝ }
+    ensures values { λ r. ⌜ coverValues r ≡ coverValues (coverAnswer across upward (now (corners .entry)) (length (now (cells .entry)))) ⌝ }
     ensures number { λ r. ⌜ coverValues r .number ≡ coverCause across upward (now (corners .entry)) (length (now (cells .entry))) ⌝ }
     ensures buffer { λ _. ⌜ now (cells .exit) ≡ coverAfter across upward (now (corners .entry)) (now (cells .entry)) ⌝ }
 {

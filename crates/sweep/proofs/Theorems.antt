@@ -1,7 +1,8 @@
 -- The promises on the sweep order and on the causes of its calls hold.
 use mathlib.Core.Path.{_≡_, refl}
 use mathlib.Core.List.{List}
-use Prim.Native.Nat.{ℕ, _<_}
+use mathlib.Core.Logic.{_↔_}
+use Prim.Native.Nat.{ℕ}
 use native.Mathlib.Omega.{arith}
 use lib.IntN.{ℤ}
 use lib.Dec.{eqb}
@@ -13,9 +14,10 @@ use Rattle.lists.proofs.Lists.{all-at, pairwise-with, ordered-unique}
 use Rattle.plan.specs.declared.Shape.{Shape}
 use Rattle.plan.specs.Plan.{grown, planCause, count}
 use Rattle.sweep.specs.Sweep.{sweepOrder, orderCause, makeCause}
-use Rattle.sweep.specs.Theorems.{AllBelow, Swept, SweepHolds, OrderCauses, Sweeps, MakeCauses}
-use Rattle.plan.proofs.Plan.{check-passed, check-failed, check-others, plan-not, count-is}
-use Rattle.sweep.proofs.Sweep.{sweep-is, sweep-has, sweep-distinct}
+use Rattle.sweep.specs.Theorems.{AllBelow, Swept, SweepHolds, Sweeps}
+use Rattle.plan.proofs.Plan.{check-passed}
+use Rattle.plan.proofs.Theorems.{plan-last}
+use Rattle.sweep.proofs.Sweep.{sweep-is, sweep-has}
 use Rattle.plan.proofs.Spots.{spot-number, rect-number}
 use Rattle.sweep.proofs.Spots.{earlier, earlier-asym}
 use Rattle.lists.proofs.Numbers.{same-tells}
@@ -27,7 +29,6 @@ sweep-holds ns cells f = record {
   numbering = λ j p k. spot-number ns j p k;
   spots = λ i p. let r = rect-number ns cells i p in (r .1, r .0);
   permutes = permutes;
-  once = sweep-distinct cells (sweep-is cells);
   ascending = ascending;
   only = λ l n a. ordered-unique l (sweepOrder cells) (λ x y. earlier-asym) a ascending (λ i m. permutes i .1 (n i .0 m)) (λ i m. n i .1 (permutes i .0 m));
 }
@@ -42,37 +43,25 @@ sweep-holds ns cells f = record {
     ascending = pairwise-with (earlier ns cells (f .whole)) (sweep-is cells .below) (sweep-is cells .ascending)
 
 -- ---- causes
-order-causes : (s : Shape) (cells : List ℤ) (order : List ℕ) → OrderCauses s cells order
+-- an order passes exactly with its plan, and where it is the sweep order
+pub order-passed : (s : Shape) (cells : List ℤ) (order : List ℕ) → (orderCause s cells order ≡ 0) ↔ ((planCause s cells ≡ 0) × (order ≡ sweepOrder (grown s cells)))
 unfolding orderCause
-order-causes s cells order =
-    let plan = planCause s cells in
-    let t = same-tells order (sweepOrder (grown s cells)) in
-    record {
-      none = check-passed plan 4 (λ z. t);
-      five = check-failed plan 4 (plan-not s cells 5 (omega arith) (λ e. omega arith)) (λ z. t);
-      others = λ m p x. check-others plan (same order (sweepOrder (grown s cells))) 5 m p x;
-    }
-
-make-causes : (s : Shape) (cells : List ℤ) (order : List ℕ) → MakeCauses s cells order
-unfolding makeCause
-make-causes s cells order =
-    let n = sum (s .sizes) in
-    let t = tells (eqb (length order) n) (eqb-true (length order) n) (eq-eqb (length order) n) in
-    record {
-      made = check-passed (planCause s cells) 7 (λ z. t);
-      eight = check-failed (planCause s cells) 7 (plan-not s cells 8 (omega arith) (λ e. omega arith)) (λ z. t);
-      others = λ m p x. check-others (planCause s cells) (eqb (length order) n) 8 m p x;
-      filled = λ e. rw e;
-      kept = λ m e. rw e;
-    }
+order-passed s cells order = check-passed (planCause s cells) 4 (λ z. same-tells order (sweepOrder (grown s cells)))
 
 -- the sweep order is not refused
 pub order-passes : (s : Shape) (cells : List ℤ) → planCause s cells ≡ 0 → orderCause s cells (sweepOrder (grown s cells)) ≡ 0
-order-passes s cells e = order-causes s cells (sweepOrder (grown s cells)) .none .1 (e, refl)
-
--- no number but 1 to 5 and 17 refuses an order
-pub order-not : (s : Shape) (cells : List ℤ) (order : List ℕ) (n : ℕ) → 5 < n → (n ≡ 17 → ⊥) → orderCause s cells order ≡ n → ⊥
-order-not s cells order n h x e = plan-not s cells n (omega arith) x (order-causes s cells order .others n (omega arith) (λ q. omega arith) .0 e)
+order-passes s cells e = order-passed s cells (sweepOrder (grown s cells)) .1 (e, refl)
 
 pub sweep-holding : Sweeps
-sweep-holding = record { sweep = sweep-holds; order = order-causes; make = make-causes }
+unfolding orderCause makeCause
+sweep-holding = record {
+  sweep = sweep-holds;
+  calls = λ s cells order.
+      let n = sum (s .sizes) in
+      record {
+        checked = plan-last s cells 5 (λ z. same-tells order (sweepOrder (grown s cells)));
+        make = plan-last s cells 8 (λ z. tells (eqb (length order) n) (eqb-true (length order) n) (eq-eqb (length order) n));
+        filled = λ e. rw e;
+        kept = λ m e. rw e;
+      };
+}

@@ -5,9 +5,11 @@ use mathlib.Core.Logic.{_↔_}
 use Prim.Native.Nat.{ℕ, suc, _+_, _<_}
 use lib.IntN.{ℤ}
 use lib.ListN.{length, getD, take}
-use Rattle.lists.specs.Lists.{Pairwise, Distinct, sum}
+use Rattle.lists.specs.Lists.{Pairwise, sum}
 use Rattle.plan.specs.declared.Shape.{Shape}
-use Rattle.plan.specs.Plan.{rectAt, count, layersOf, grown, planCause}
+use Rattle.plan.specs.Causes.{Check, Passed}
+use Rattle.plan.specs.Plan.{rectAt, count, layersOf, grown}
+use Rattle.plan.specs.Theorems.{PlanChecks}
 use Rattle.plan.specs.Frames.{Framed}
 use Rattle.plan.specs.Spots.{spotOf, Has, rectOf}
 use Rattle.sweep.specs.Sweep.{Earlier, sweepOrder, orderCause, makeCause, orderAfter}
@@ -28,30 +30,21 @@ pub record SweepHolds (ns : List ℕ) (cells : List ℤ) : Type 0 where
   pub numbering : (j p : ℕ) → p < getD ns j 0 → spotOf ns (sum (take j ns) + p) ≡ record { layer = j; place = p }
   -- each number is that of a rectangle, as they lie in the cells
   pub spots : (i : ℕ) → i < sum ns → Has (layersOf ns cells) (spotOf ns i) × (rectOf (layersOf ns cells) (spotOf ns i) ≡ rectAt cells i)
-  -- the order is a permutation of these numbers
+  -- the order has just these numbers, strictly ascending, so each once
   pub permutes : AllBelow (sum ns) (sweepOrder cells)
-  pub once : Distinct (sweepOrder cells)
-  -- strictly ascending
   pub ascending : Swept ns cells (sweepOrder cells)
-  -- ... and the only such list
+  -- ... and it is the only such list
   pub only : (l : List ℕ) → AllBelow (sum ns) l → Swept ns cells l → l ≡ sweepOrder cells
 
--- the causes of a plan and an order: those of the plan, and 5, "order buffer not the sweep order of n" of the grown plan, where none of them applies
-pub record OrderCauses (s : Shape) (cells : List ℤ) (order : List ℕ) : Type 0 where
-  pub none : (orderCause s cells order ≡ 0) ↔ ((planCause s cells ≡ 0) × (order ≡ sweepOrder (grown s cells)))
-  pub five : (orderCause s cells order ≡ 5) ↔ ((planCause s cells ≡ 0) × (order ≡ sweepOrder (grown s cells) → ⊥))
-  pub others : (n : ℕ) → 0 < n → (n ≡ 5 → ⊥) → (orderCause s cells order ≡ n) ↔ (planCause s cells ≡ n)
-
--- the order maker: its causes are those of the plan, and 8, "buffer not n cells", where none of them applies; what it leaves in the buffer
-pub record MakeCauses (s : Shape) (cells : List ℤ) (order : List ℕ) : Type 0 where
-  pub made : (makeCause s cells order ≡ 0) ↔ ((planCause s cells ≡ 0) × (length order ≡ sum (s .sizes)))
-  pub eight : (makeCause s cells order ≡ 8) ↔ ((planCause s cells ≡ 0) × (length order ≡ sum (s .sizes) → ⊥))
-  pub others : (n : ℕ) → 0 < n → (n ≡ 8 → ⊥) → (makeCause s cells order ≡ n) ↔ (planCause s cells ≡ n)
-  -- the buffer afterwards: the sweep order where none applies, else as it was
+-- the calls that check and make an order
+pub record OrderHolds (s : Shape) (cells : List ℤ) (order : List ℕ) : Type 0 where
+  -- the causes: a plan's, then 5, "order buffer not the sweep order of n", of the grown plan; of the order maker 8, "buffer not n cells"
+  pub checked : PlanChecks s cells (Check 5 (order ≡ sweepOrder (grown s cells)) Passed) (orderCause s cells order)
+  pub make : PlanChecks s cells (Check 8 (length order ≡ sum (s .sizes)) Passed) (makeCause s cells order)
+  -- the maker leaves the sweep order in the buffer where no cause applies, else the buffer is as it was
   pub filled : makeCause s cells order ≡ 0 → orderAfter s cells order ≡ sweepOrder (grown s cells)
   pub kept : (n : ℕ) → makeCause s cells order ≡ suc n → orderAfter s cells order ≡ order
 
 pub record Sweeps : Type 0 where
   pub sweep : (ns : List ℕ) (cells : List ℤ) → Framed ns cells → SweepHolds ns cells
-  pub order : (s : Shape) (cells : List ℤ) (order : List ℕ) → OrderCauses s cells order
-  pub make : (s : Shape) (cells : List ℤ) (order : List ℕ) → MakeCauses s cells order
+  pub calls : (s : Shape) (cells : List ℤ) (order : List ℕ) → OrderHolds s cells order

@@ -14,11 +14,11 @@ use Rattle.lists.proofs.Lists.{all-getD}
 use Rattle.lists.proofs.Numbers.{has-all}
 use Rattle.lists.proofs.Padding.{take-padded, padded-long, padded-zeros}
 use Rattle.symmetry.specs.Plans.{Plan, partsOf, selected, arranged, arrangedRow}
-use Rattle.symmetry.specs.Theorems.{Accepted, ArrangeIs, Rearranged, Arrangement}
+use Rattle.symmetry.specs.Theorems.{Accepted, Rearranged, Arrangement}
 use Rattle.symmetry.proofs.Sheets.{Sheets, sheets-of}
-use Rattle.symmetry.proofs.Rearranging.{Moves, Moved, MovesRow, layer-kept, rearranged}
+use Rattle.symmetry.proofs.Rearranging.{Changed, Moves, Moved, MovesRow, layer-kept, changed}
 
-map-at : {A B : Type 0} (f : A → B) (d : A) (e : B) (l : List A) (m : ℕ) → m < length l → getD (map f l) m e ≡ f (getD l m d)
+pub map-at : {A B : Type 0} (f : A → B) (d : A) (e : B) (l : List A) (m : ℕ) → m < length l → getD (map f l) m e ≡ f (getD l m d)
 map-at f d e [] m h = absurd (omega arith)
 map-at f d e (a ∷ l) zero h = refl
 map-at f d e (a ∷ l) (suc m) h = map-at f d e l m (omega arith)
@@ -31,6 +31,9 @@ module _ {A : Type 0} (d : A) (places : List ℕ) (l : List A) where
   selected-at : (m : ℕ) → m < length places → getD (selected d places l) m d ≡ getD l (getD places m 0) d
   unfolding selected
   selected-at m h = map-at (λ m. getD l m d) 0 d places m h
+
+pub column-at : (places row : List ℕ) (m : ℕ) → m < length places → getD (arrangedRow places row) m 0 ≡ getD row (getD places m 0) 0
+column-at places row = selected-at 0 places row
 
 -- where a number stands first
 position : ℕ → List ℕ → ℕ
@@ -91,21 +94,24 @@ module _ (places : List ℕ) (p : Plan) (a : Accepted p) (o : Arrangement (p .sh
 
   layers-arranged : Moved p (arranged places p .shape) (selected [] places (partsOf p)) (λ m. getD places m 0)
   layers-arranged = record {
+    sizes = filled-at (p .shape .sizes);
+    margins = filled-at (p .shape .margins);
+    cells = λ m h. selected-at [] places (partsOf p) m (omega (arith, o .long));
     typed = record { sizes = padded-long 6 (selected 0 places (p .shape .sizes)); margins = padded-long 6 (selected 0 places (p .shape .margins)) };
     count = refl;
     past = λ m h. (filled-past (p .shape .sizes) m h, filled-past (p .shape .margins) m h);
     long = selected-long [] places (partsOf p) ∙ o .long;
-    sizes = filled-at (p .shape .sizes);
-    margins = filled-at (p .shape .margins);
-    cells = λ m h. selected-at [] places (partsOf p) m (omega (arith, o .long));
   }
 
-  pub arrange-holds : Rearranged p (arranged places p) (arrangedRow places)
-  arrange-holds =
-      rearranged p a (arranged places p .shape) (selected [] places (partsOf p)) (λ m. getD places m 0) (λ m. position m places) (place-moves (p .shape .k) places o) layers-arranged (arrangedRow places) (columns-arranged (p .shape .k) places o)
-
-  pub arrange-is : ArrangeIs places p
-  arrange-is = record {
+  pub arrange-holds : Rearranged places p (arranged places p)
+  arrange-holds = record {
     layers = layer-kept p a (arranged places p .shape) (selected [] places (partsOf p)) (λ m. getD places m 0) (λ m. position m places) (place-moves (p .shape .k) places o) layers-arranged;
-    columns = columns-arranged (p .shape .k) places o .at;
+    accepted = moved .accepted;
+    rows = moved .rows;
+    areas = moved .areas;
+    union = moved .union;
+    ground = moved .ground;
   }
+    where
+      moved : Changed p (arranged places p) (arrangedRow places)
+      moved = changed p a (arranged places p .shape) (selected [] places (partsOf p)) (λ m. getD places m 0) (λ m. position m places) (place-moves (p .shape .k) places o) layers-arranged (arrangedRow places) (columns-arranged (p .shape .k) places o)

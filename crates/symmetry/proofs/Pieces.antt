@@ -12,7 +12,7 @@ use Rattle.plan.specs.Plan.{rectAt, Layer}
 use Rattle.plan.specs.Spots.{layerAt}
 use Rattle.plan.proofs.Spots.{rect-take, rect-drop}
 use Rattle.join.specs.Join.{InJoin}
-use Rattle.symmetry.specs.Plans.{Plan, partsOf, replaced, countedOn}
+use Rattle.symmetry.specs.Plans.{Plan, partsOf, joined, countedOn}
 use Rattle.symmetry.specs.Theorems.{Accepted, layersIn, drawnAt, SameLayer, tableIn, groundIn}
 use Rattle.symmetry.proofs.Counted.{counted-long, counted-here, counted-else, counted-back}
 use Rattle.symmetry.proofs.Places.{here-or-else, Placed, Among, rectIn, among-join, join-placed, same-ground}
@@ -26,18 +26,13 @@ pub record Piece (n : ℕ) (whole : List ℤ) (start size : ℕ) (part : List �
   pub long : length part ≡ 4 * size
   pub same : (r : ℕ) → r < size → rectAt part r ≡ rectAt whole (start + r)
 
-pub first-piece : (n : ℕ) (whole : List ℤ) (m : ℕ) → length whole ≡ 4 * n → m ≤ n → Piece n whole 0 m (take (4 * m) whole)
-first-piece n whole m e h = record {
-  fits = omega arith;
-  long = length-take-le (4 * m) whole (omega arith);
-  same = λ r l. let z : r ≡ 0 + r = omega arith in rect-take whole m r l ∙ ap (rectAt whole) z;
-}
-
-pub second-piece : (n : ℕ) (whole : List ℤ) (m : ℕ) → length whole ≡ 4 * n → m ≤ n → Piece n whole m (n - m) (drop (4 * m) whole)
-second-piece n whole m e h = record {
-  fits = omega arith;
-  long = omega (arith, length-drop (4 * m) whole);
-  same = λ r l. let z : r ≡ m + r - m = omega arith in ap (rectAt (drop (4 * m) whole)) z ∙ rect-drop whole m (m + r) (omega arith);
+pub piece-at : (n : ℕ) (whole : List ℤ) (start size : ℕ) → length whole ≡ 4 * n → start + size ≤ n → Piece n whole start size (take (4 * size) (drop (4 * start) whole))
+piece-at n whole start size e h = record {
+  fits = h;
+  long = length-take-le (4 * size) (drop (4 * start) whole) (omega (arith, length-drop (4 * start) whole));
+  same = λ r l.
+      let z : r ≡ start + r - start = omega arith in
+      rect-take (drop (4 * start) whole) size r l ∙ (ap (rectAt (drop (4 * start) whole)) z ∙ rect-drop whole start (start + r) (omega arith));
 }
 
 module _ (p : Plan) (a : Accepted p) (j : ℕ) (hj : j < p .shape .k) (start size : ℕ) (part : List ℤ) (piece : Piece (getD (p .shape .sizes) j 0) (getD (partsOf p) j []) start size part) where
@@ -45,7 +40,7 @@ module _ (p : Plan) (a : Accepted p) (j : ℕ) (hj : j < p .shape .k) (start siz
   k = p .shape .k
 
   abbrev q : Plan
-  q = replaced j size part p
+  q = record { shape = record { k = p .shape .k; sizes = set (p .shape .sizes) j size; margins = p .shape .margins }; cells = joined (set (partsOf p) j part) }
 
   old : Sheets (p .shape) (partsOf p)
   old = sheets-of (p .shape) (p .cells) a

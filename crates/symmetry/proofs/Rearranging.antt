@@ -16,12 +16,22 @@ use Rattle.plan.specs.declared.Shape.{Shape}
 use Rattle.plan.specs.Plan.{Typed}
 use Rattle.plan.specs.Spots.{layerAt}
 use Rattle.join.specs.Join.{InJoin, areaIn}
+use Rattle.ground.specs.Union.{grounds}
+use Rattle.ground.proofs.Theorems.{union-members}
 use Rattle.symmetry.specs.Plans.{Plan, partsOf, joined}
-use Rattle.symmetry.specs.Theorems.{Accepted, layersIn, tableIn, groundIn, areasIn, SameLayer, SameSet, Rearranged}
+use Rattle.symmetry.specs.Theorems.{Accepted, layersIn, tableIn, groundIn, areasIn, unionIn, SameLayer, SameSet, AcceptedToo, KeepsGround}
 use Rattle.symmetry.proofs.Places.{Follows, follows-among, follows-join, same-ground, ground-area}
 use Rattle.symmetry.proofs.Parts.{drawnLayer, grownLayer}
 use Rattle.symmetry.proofs.Sheets.{Sheet, Sheets, sheets-of, sheets-sound, parts-back, drawn-of, layer-of}
-use Rattle.symmetry.proofs.Rows.{row-join, join-row, rows-once, row-grounded, layers-k, row-k, rows-k, set-sum}
+use Rattle.symmetry.proofs.Rows.{row-join, join-row, rows-once, row-grounded, layers-k, row-k, rows-k, same-set, set-sum}
+
+-- what is promised of q, in whatever way its rows are those of p
+pub record Changed (p q : Plan) (change : List ℕ → List ℕ) : Type 0 where
+  pub accepted : AcceptedToo p q
+  pub rows : SameSet (tableIn q) (map change (tableIn p))
+  pub areas : areasIn q ≡ areasIn p
+  pub union : unionIn q ≡ unionIn p
+  pub ground : KeepsGround p q change
 
 -- places below k, moved one to one
 pub record Moves (k : ℕ) (from to : ℕ → ℕ) : Type 0 where
@@ -32,18 +42,37 @@ pub record Moves (k : ℕ) (from to : ℕ → ℕ) : Type 0 where
 
 -- the layers of a shape with these parts are those of p, so moved
 pub record Moved (p : Plan) (s : Shape) (ps : List (List ℤ)) (from : ℕ → ℕ) : Type 0 where
+  pub sizes : (m : ℕ) → m < p .shape .k → getD (s .sizes) m 0 ≡ getD (p .shape .sizes) (from m) 0
+  pub margins : (m : ℕ) → m < p .shape .k → getD (s .margins) m 0 ≡ getD (p .shape .margins) (from m) 0
+  pub cells : (m : ℕ) → m < p .shape .k → getD ps m [] ≡ getD (partsOf p) (from m) []
   pub typed : Typed s
   pub count : s .k ≡ p .shape .k
   pub past : (m : ℕ) → p .shape .k ≤ m → (getD (s .sizes) m 0 ≡ 0) × (getD (s .margins) m 0 ≡ 0)
   pub long : length ps ≡ p .shape .k
-  pub sizes : (m : ℕ) → m < p .shape .k → getD (s .sizes) m 0 ≡ getD (p .shape .sizes) (from m) 0
-  pub margins : (m : ℕ) → m < p .shape .k → getD (s .margins) m 0 ≡ getD (p .shape .margins) (from m) 0
-  pub cells : (m : ℕ) → m < p .shape .k → getD ps m [] ≡ getD (partsOf p) (from m) []
 
 -- a row's places moved alike
 pub record MovesRow (k : ℕ) (from : ℕ → ℕ) (change : List ℕ → List ℕ) : Type 0 where
   pub at : (row : List ℕ) → length row ≡ k → (m : ℕ) → m < k → getD (change row) m 0 ≡ getD row (from m) 0
   pub long : (row : List ℕ) → length row ≡ k → length (change row) ≡ k
+
+-- what is made of the rows' common grounds as a set is the same too
+module _ (p q : Plan) (change : List ℕ → List ℕ) (rows : SameSet (tableIn q) (map change (tableIn p))) (ground : KeepsGround p q change) where
+  same-grounds : (c : Rect) → List·Memᴰ c (map (groundIn q) (tableIn q)) ↔ List·Memᴰ c (map (groundIn p) (tableIn p))
+  same-grounds c = (forth, back)
+    where
+      forth : List·Memᴰ c (map (groundIn q) (tableIn q)) → List·Memᴰ c (map (groundIn p) (tableIn p))
+      forth i =
+          let r = Memᴰ·of-map (groundIn q) (tableIn q) i in
+          let s = Memᴰ·of-map change (tableIn p) (rows .same (r .0) .0 (r .1)) in
+          subst (λ (z : Rect). List·Memᴰ z (map (groundIn p) (tableIn p))) (sym (ground (s .0) (s .1)) ∙ (ap (groundIn q) (s .2) ∙ r .2)) (Memᴰ·map (groundIn p) (s .1))
+
+      back : List·Memᴰ c (map (groundIn p) (tableIn p)) → List·Memᴰ c (map (groundIn q) (tableIn q))
+      back i =
+          let r = Memᴰ·of-map (groundIn p) (tableIn p) i in
+          subst (λ (z : Rect). List·Memᴰ z (map (groundIn q) (tableIn q))) (ground (r .0) (r .1) ∙ r .2) (Memᴰ·map (groundIn q) (rows .same (change (r .0)) .1 (Memᴰ·map change (r .1))))
+
+  same-union : unionIn q ≡ unionIn p
+  same-union = union-members (grounds (layersIn q) (tableIn q)) (grounds (layersIn p) (tableIn p)) same-grounds
 
 module _ (p : Plan) (a : Accepted p) (s : Shape) (ps : List (List ℤ)) (from to : ℕ → ℕ) (moves : Moves (p .shape .k) from to) (moved : Moved p s ps from) where
   abbrev k : ℕ
@@ -153,10 +182,10 @@ module _ (p : Plan) (a : Accepted p) (s : Shape) (ps : List (List ℤ)) (from to
         pairwise-of-map change (λ x y n. n) (pairwise-with (λ x y lx ly n e. n (one-to-one x y lx ly e)) (rows-k p a) (rows-once p a))
 
     same-rows : SameSet (tableIn q) (map change (tableIn p))
-    same-rows = record { same = λ row. (source-row row, changed row); once = rows-once q sound; once-too = changed-once }
+    same-rows = same-set (λ row. (source-row row, back-row row)) (rows-once q sound) changed-once
       where
-        changed : (row : List ℕ) → List·Memᴰ row (map change (tableIn p)) → List·Memᴰ row (tableIn q)
-        changed row m = let r = Memᴰ·of-map change (tableIn p) m in subst (λ (x : List ℕ). List·Memᴰ x (tableIn q)) (r .2) (change-row (r .0) (r .1))
+        back-row : (row : List ℕ) → List·Memᴰ row (map change (tableIn p)) → List·Memᴰ row (tableIn q)
+        back-row row m = let r = Memᴰ·of-map change (tableIn p) m in subst (λ (x : List ℕ). List·Memᴰ x (tableIn q)) (r .2) (change-row (r .0) (r .1))
 
     ground : (row : List ℕ) → List·Memᴰ row (tableIn p) → groundIn q (change row) ≡ groundIn p row
     ground row m =
@@ -170,21 +199,5 @@ module _ (p : Plan) (a : Accepted p) (s : Shape) (ps : List (List ℤ)) (from to
         (map-map (areaIn (layersIn q)) change (tableIn p)
         ∙ map-same (λ row. areaIn (layersIn q) (change row)) (areaIn (layersIn p)) (all-of-mem (tableIn p) (λ row m. ground-area (layersIn q) (change row) (layersIn p) row (ground row m))))
 
-    pub rearranged : Rearranged p q change
-    rearranged = record { count = moved .count; accepted = sound; rows = same-rows; areas = areas; ground = ground }
-
--- what is made of the rows' common grounds as a set is the same too
-module _ (p q : Plan) (change : List ℕ → List ℕ) (h : Rearranged p q change) where
-  pub same-grounds : (c : Rect) → List·Memᴰ c (map (groundIn q) (tableIn q)) ↔ List·Memᴰ c (map (groundIn p) (tableIn p))
-  same-grounds c = (forth, back)
-    where
-      forth : List·Memᴰ c (map (groundIn q) (tableIn q)) → List·Memᴰ c (map (groundIn p) (tableIn p))
-      forth i =
-          let r = Memᴰ·of-map (groundIn q) (tableIn q) i in
-          let s = Memᴰ·of-map change (tableIn p) (h .rows .same (r .0) .0 (r .1)) in
-          subst (λ (z : Rect). List·Memᴰ z (map (groundIn p) (tableIn p))) (sym (h .ground (s .0) (s .1)) ∙ (ap (groundIn q) (s .2) ∙ r .2)) (Memᴰ·map (groundIn p) (s .1))
-
-      back : List·Memᴰ c (map (groundIn p) (tableIn p)) → List·Memᴰ c (map (groundIn q) (tableIn q))
-      back i =
-          let r = Memᴰ·of-map (groundIn p) (tableIn p) i in
-          subst (λ (z : Rect). List·Memᴰ z (map (groundIn q) (tableIn q))) (h .ground (r .0) (r .1) ∙ r .2) (Memᴰ·map (groundIn q) (h .rows .same (change (r .0)) .1 (Memᴰ·map change (r .1))))
+    pub changed : Changed p q change
+    changed = record { accepted = (moved .count, sound); rows = same-rows; areas = areas; union = same-union p q change same-rows ground; ground = ground }

@@ -1,6 +1,7 @@
 -- The rows of an accepted plan: those of the join, each once, with their common ground.
 use mathlib.Core.Path.{_≡_, _∙_}
 use mathlib.Core.List.{List, map, List·Memᴰ}
+use mathlib.Core.Logic.{_↔_}
 use Prim.Native.Nat.{ℕ}
 use lib.ListN.{length}
 use Rattle.lists.specs.Lists.{All, Distinct, sum}
@@ -44,10 +45,14 @@ module _ (p : Plan) (a : Accepted p) where
   pub rows-k : All (λ row. length row ≡ p .shape .k) (tableIn p)
   rows-k = all-of-mem (tableIn p) row-k
 
--- over the same set, sums and counts are the same
-module _ {rows more : List (List ℕ)} (s : SameSet rows more) where
-  pub set-sum : (f : List ℕ → ℕ) → sum (map f rows) ≡ sum (map f more)
-  set-sum f = same-sum f rows more (s .once) (s .once-too) (λ row m. s .same row .0 m) (λ row m. s .same row .1 m)
+pub same-set : {rows more : List (List ℕ)} → ((row : List ℕ) → List·Memᴰ row rows ↔ List·Memᴰ row more) → Distinct rows → Distinct more → SameSet rows more
+same-set {rows} {more} same once once-too = record {
+  same = same;
+  once = once;
+  once-too = once-too;
+  many = same-count rows more once once-too (λ row m. same row .0 m) (λ row m. same row .1 m);
+}
 
-  pub set-count : length rows ≡ length more
-  set-count = same-count rows more (s .once) (s .once-too) (λ row m. s .same row .0 m) (λ row m. s .same row .1 m)
+-- over the same set, sums are the same
+pub set-sum : {rows more : List (List ℕ)} → SameSet rows more → (f : List ℕ → ℕ) → sum (map f rows) ≡ sum (map f more)
+set-sum {rows} {more} s f = same-sum f rows more (s .once) (s .once-too) (λ row m. s .same row .0 m) (λ row m. s .same row .1 m)

@@ -15,7 +15,7 @@ use Rattle.plan.specs.Plan.{rectAt, count, Layer, layersOf, sizesOf, grown, lay
 use Rattle.plan.specs.Spots.{spotOf, layerAt, rectOf}
 use Rattle.plan.specs.Theorems.{AllIn}
 use Rattle.plan.proofs.Spots.{numberAt, number-small, spot-number, rect-number, size-of, layers-long, has-layer}
-use Rattle.plan.proofs.Theorems.{plans}
+use Rattle.plan.proofs.Theorems.{plans, plan-passed}
 use Rattle.symmetry.specs.Plans.{parts, joined}
 use Rattle.symmetry.proofs.Parts.{Fits, parts-fit, joined-parts, joined-long, drawnLayer, part-layer, grownLayer, grown-layer}
 
@@ -39,7 +39,7 @@ pub record Sheets (s : Shape) (ps : List (List ℤ)) : Type 0 where
 module _ (s : Shape) (cells : List ℤ) (sound : Sound s cells) where
   pub sheets-of : Sheets s (parts (sizesOf s) cells)
   sheets-of =
-      let c = plans .causes s cells .none .0 (sound .passed) in
+      let c = plan-passed s cells .0 (sound .passed) in
       let f = plans .frames s cells sound in
       let fit = parts-fit (sizesOf s) cells (omega (arith, c .3, f .1)) in
       record {
@@ -98,7 +98,7 @@ module _ (s : Shape) (ps : List (List ℤ)) (hs : Sheets s ps) where
   parts-back = joined-parts (sizesOf s) ps fits
 
   pub sheets-sound : Sound s (joined ps)
-  sheets-sound = record { typed = hs .typed; passed = plans .causes s (joined ps) .none .1 ((hs .low, hs .high), sized, margined, filled, all-in) }
+  sheets-sound = record { typed = hs .typed; passed = plan-passed s (joined ps) .1 ((hs .low, hs .high), sized, margined, filled, all-in) }
     where
       sized : (m : ℕ) → (getD (s .sizes) m 0 ≤ 512) × (s .k ≤ m → getD (s .sizes) m 0 ≡ 0)
       sized m = (go (total (s .k) m), λ h. hs .past m h .0)

@@ -1,13 +1,17 @@
 -- The laws of layers in any order hold.
-use mathlib.Core.Path.{_≡_, ap, _∙_}
+use mathlib.Core.Path.{_≡_, sym, ap, _∙_}
 use Rattle.geometry.specs.declared.Rect.{Rect}
-use Rattle.geometry.specs.Rectangles.{common, meets, kindOf, meeting}
+use Rattle.geometry.specs.Rectangles.{common, meets, meeting}
 use Rattle.geometry.proofs.Rectangles.{common-comm, common-assoc, common-same}
+use Rattle.plan.specs.Plan.{Layer}
+use Rattle.symmetry.specs.Plans.{exchanging}
 use Rattle.symmetry.specs.Theorems.{TakingGround, LayersInAnyOrder}
-use Rattle.symmetry.proofs.Exchanges.{exchange-holds, exchange-is}
-use Rattle.symmetry.proofs.Arrangements.{arrange-holds, arrange-is}
-use Rattle.symmetry.proofs.Cutting.{cut-holds, cut-is}
-use Rattle.symmetry.proofs.Runs.{same-union, runs-rearranged, runs-cut}
+use Rattle.symmetry.proofs.Sheets.{drawn-of}
+use Rattle.symmetry.proofs.Exchanges.{exchange-is}
+use Rattle.symmetry.proofs.Arrangements.{column-at, arrange-holds}
+use Rattle.symmetry.proofs.Cutting.{cut-holds}
+use Rattle.symmetry.proofs.Runs.{runs-rearranged, runs-cut, runs-too}
+use Rattle.symmetry.proofs.Counted.{counted-here, counted-else}
 
 same-handed : (a b : Rect) → meeting a b ≡ meeting b a
 unfolding meets meeting
@@ -18,15 +22,15 @@ taking-ground = record { commutative = common-comm; associative = common-assoc; 
 
 pub layers-in-any-order : LayersInAnyOrder
 layers-in-any-order = record {
-  exchange = exchange-holds;
   arrange = arrange-holds;
-  cut = cut-holds;
-  exchange-is = exchange-is;
-  arrange-is = arrange-is;
-  cut-is = cut-is;
+  columns = column-at;
+  exchange = λ i j p a hi hj.
+      let e = exchange-is (p .shape .k) i j hi hj in
+      (e, arrange-holds (exchanging (p .shape .k) i j) p a (e .arrangement));
+  cut = λ j m n p a hj e. cut-holds j m n p a hj (sym (ap (λ (l : Layer). l .size) (drawn-of (p .shape) (p .cells) a j hj)) ∙ e);
+  counted = λ j m row. (counted-here j m row, counted-else j m row);
   ground = taking-ground;
-  union = same-union;
-  kinds = λ p q change h row m. ap kindOf (h .ground row m);
   runs = runs-rearranged;
   runs-cut = runs-cut;
+  fits = runs-too;
 }

@@ -1,10 +1,10 @@
 -- Plans of the same rectangles: two layers exchanged, all layers in any order, and a layer's list cut in two (02, Q-8). No public call's contract cites
 -- this. Layers and columns are counted from 0.
 use mathlib.Core.List.{List, [], _∷_, _++_, map}
-use Prim.Native.Nat.{ℕ, _+_, _-_, _*_}
+use Prim.Native.Nat.{ℕ, _+_, _*_}
 use lib.IntN.{ℤ}
 use lib.ListN.{getD, set, take, drop}
-use Rattle.lists.specs.Lists.{padded}
+use Rattle.lists.specs.Lists.{padded, numbers}
 use Rattle.plan.specs.declared.Shape.{Shape}
 use Rattle.plan.specs.Limits.{mostLayers}
 use Rattle.plan.specs.Plan.{sizesOf}
@@ -28,22 +28,6 @@ abbrev pub joined : List (List ℤ) → List ℤ
 joined [] = []
 joined (part ∷ rest) = part ++ joined rest
 
--- ---- two layers exchanged
--- the elements at i and j exchanged
-unfoldable pub exchange : {A : Type 0} → A → (i j : ℕ) → List A → List A
-exchange d i j l = set (set l i (getD l j d)) j (getD l i d)
-
--- 02: "Exchanging two layers with their margins": sizes, margins and cells
-abbrev pub exchanged : (i j : ℕ) → Plan → Plan
-exchanged i j p = record {
-  shape = record { k = p .shape .k; sizes = exchange 0 i j (p .shape .sizes); margins = exchange 0 i j (p .shape .margins) };
-  cells = joined (exchange [] i j (partsOf p));
-}
-
--- 02: "those two columns exchanged"
-unfoldable pub exchangedRow : (i j : ℕ) → List ℕ → List ℕ
-exchangedRow i j row = exchange 0 i j row
-
 -- ---- all layers in any order
 -- the elements at these places, in turn
 unfoldable pub selected : {A : Type 0} → A → (places : List ℕ) → List A → List A
@@ -52,27 +36,29 @@ selected d places l = map (λ m. getD l m d) places
 -- the layers at these places, in turn, with their sizes, margins and cells
 abbrev pub arranged : (places : List ℕ) → Plan → Plan
 arranged places p = record {
-  shape = record { k = p .shape .k; sizes = padded mostLayers (selected 0 places (p .shape .sizes)); margins = padded mostLayers (selected 0 places (p .shape .margins)) };
+  shape = record {
+    k = p .shape .k;
+    sizes = padded mostLayers (selected 0 places (p .shape .sizes));
+    margins = padded mostLayers (selected 0 places (p .shape .margins));
+  };
   cells = joined (selected [] places (partsOf p));
 }
 
-abbrev pub arrangedRow : (places : List ℕ) → List ℕ → List ℕ
+-- and the columns of a row likewise
+abbrev pub arrangedRow : (places row : List ℕ) → List ℕ
 arrangedRow places row = selected 0 places row
 
+-- 02: "Exchanging two layers": the places below k, those of layers i and j exchanged
+unfoldable pub exchanging : (k i j : ℕ) → List ℕ
+exchanging k i j = set (set (numbers k) i j) j i
+
 -- ---- a layer's list cut in two
--- the plan in which layer j has n rectangles, in these cells; every other layer and all margins stay
-abbrev pub replaced : (j n : ℕ) → List ℤ → Plan → Plan
-replaced j n part p = record {
+-- 02: "Cutting a layer's list in two": layer j has n of its rectangles, those from the place `from` on; every other layer and all margins stay
+abbrev pub piece : (j from n : ℕ) → Plan → Plan
+piece j from n p = record {
   shape = record { k = p .shape .k; sizes = set (p .shape .sizes) j n; margins = p .shape .margins };
-  cells = joined (set (partsOf p) j part);
+  cells = joined (set (partsOf p) j (take (4 * n) (drop (4 * from) (getD (partsOf p) j []))));
 }
-
--- 02: "Cutting a layer's list in two": layer j has its first m rectangles, or those behind them
-abbrev pub firstPart : (j m : ℕ) → Plan → Plan
-firstPart j m p = replaced j m (take (4 * m) (getD (partsOf p) j [])) p
-
-abbrev pub secondPart : (j m : ℕ) → Plan → Plan
-secondPart j m p = replaced j (getD (p .shape .sizes) j 0 - m) (drop (4 * m) (getD (partsOf p) j [])) p
 
 -- 02: "the places of the second part counted on from the first"
 unfoldable pub countedOn : (j m : ℕ) → List ℕ → List ℕ

@@ -1,3 +1,3 @@
 pub mod Counting
-pub mod Reports
+pub mod Runs
 pub mod Theorems

@@ -1,2 +1,2 @@
+pub mod CrossingCall
 pub mod Theorems
-pub mod Parts

@@ -1,39 +1,48 @@
--- Theorem: what the crossing report returns, beside what demand 3 says of it (paging's specs/Theorems.antt, `crossing`). Proved in proofs/Theorems.antt.
+-- Theorem: what the crossing report returns, beside what demand 3 says of it (the crate demands: `crossing`). Proved in proofs/Theorems.antt.
 use mathlib.Core.Path.{_≡_}
-use mathlib.Core.List.{List, [], _∷_}
-use mathlib.Core.Logic.{_↔_}
-use Prim.Native.Nat.{ℕ, suc, _<_}
+use mathlib.Core.List.{List}
+use mathlib.Core.Option.{none}
+use Prim.Native.Nat.{ℕ, suc, _*_, _≤_, _<_}
 use lib.IntN.{ℤ}
 use lib.Dec.{eqb}
 use lib.ListN.{length, getD}
 use Rattle.lists.specs.Lists.{sum, keep}
 use Rattle.plan.specs.declared.Shape.{Shape}
-use Rattle.plan.specs.Plan.{sizesOf, Typed, grown}
-use Rattle.sweep.specs.Sweep.{orderCause}
-use Rattle.join.specs.Table.{tableOf}
-use Rattle.crossings.specs.ClassCall.{crossingCause, classCall, classValues}
+use Rattle.plan.specs.Causes.{Check, Passed}
+use Rattle.plan.specs.Plan.{Typed, grown}
+use Rattle.plan.specs.Theorems.{PlanChecks}
+use Rattle.sweep.specs.Sweep.{sweepOrder}
+use Rattle.join.specs.Table.{planTable}
+use Rattle.crossings.specs.ClassCall.{classCall, classValues}
+use Rattle.crossings.specs.Theorems.{Segments}
 use Rattle.paging.specs.declared.Run.the-variants.{Refused}
-use Rattle.paging.specs.Calls.{runCause, runCall, runTable, crossingRunCause, crossingCall, crossingTable}
+use Rattle.paging.specs.Overlays.{overlay}
+use Rattle.paging.specs.Calls.{runCall, runTable}
+use Rattle.paging.specs.Theorems.{takes}
+use Rattle.tally.specs.declared.CrossingReport.{CrossingReport}
+use Rattle.tally.specs.CrossingCall.{crossingRunCause, crossingCall, crossingTable}
 
 -- the counts of classes 0 to 16: of each, how many rows of the table have it by the class call
 pub record Counts (s : Shape) (cells : List ℤ) (counts : List ℕ) : Type 0 where
   pub seventeen : length counts ≡ 17
-  pub each : (class : ℕ) → class < 17 → getD counts class 0 ≡ length (keep (λ row. eqb (classValues (classCall s cells row) .class) class) (tableOf (sizesOf s) (grown s cells)))
+  pub each : (class : ℕ) → class < 17
+      → getD counts class 0 ≡ length (keep (λ row. eqb (classValues (classCall s cells row) .class) class) (planTable s cells))
   -- 02: "The counts add up to the rows of the join."
-  pub sum : sum counts ≡ length (tableOf (sizesOf s) (grown s cells))
+  pub sum : sum counts ≡ length (planTable s cells)
 
-pub record CrossingReports (s : Shape) (cells : List ℤ) (order table : List ℕ) (work : ℕ) : Type 0 where
-  -- each cause applies in exactly the stated case: the class call's first, then the whole run's
-  pub none : (crossingRunCause s cells order table work ≡ 0) ↔ ((crossingCause s cells ≡ 0) × (runCause s cells order table work ≡ 0))
-  pub earlier : (n : ℕ) → 0 < n → (n ≡ 5 → ⊥) → (n ≡ 7 → ⊥) → (n ≡ 19 → ⊥) → (crossingRunCause s cells order table work ≡ n) ↔ (crossingCause s cells ≡ n)
-  pub five : (crossingRunCause s cells order table work ≡ 5) ↔ ((crossingCause s cells ≡ 0) × (orderCause s cells order ≡ 5))
-  pub seven : (crossingRunCause s cells order table work ≡ 7) ↔ ((crossingCause s cells ≡ 0) × (runCause s cells order table work ≡ 7))
-  pub nineteen : (crossingRunCause s cells order table work ≡ 19) ↔ ((crossingCause s cells ≡ 0) × (runCause s cells order table work ≡ 19))
+-- the cause that refuses it, what it told, and the table as it left it
+pub record CrossingReports (s : Shape) (cells : List ℤ) (order table : List ℕ) (work refusal : ℕ) (told : CrossingReport) (left : List ℕ) : Type 0 where
+  -- behind the plan's lines 15 and 16, 02: "both after 4, in that order", and then the whole run's: 5, 7 and 19
+  pub causes : let o = overlay s cells in let n = length (o .table) in
+      PlanChecks s cells (Check 15 (3 ≤ s .k) (Check 16 (Segments s cells) (Check 5 (order ≡ sweepOrder (grown s cells))
+      (Check 7 (n ≤ takes o table) (Check 19 (2 * n ≤ work) Passed))))) refusal
   -- it is the whole run, with the counts
-  pub run : crossingRunCause s cells order table work ≡ 0 → (crossingCall s cells order table work .run ≡ runCall s cells order table work) × Counts s cells (crossingCall s cells order table work .counts) × (crossingTable s cells order table work ≡ runTable s cells order table work)
+  pub run : refusal ≡ 0 → (told .run ≡ runCall none s cells order table work) × Counts s cells (told .counts) × (left ≡ runTable none s cells order table work)
   -- a refusal: its number, seventeen times 0, the table as it was
-  pub refused : (n : ℕ) → crossingRunCause s cells order table work ≡ suc n
-      → (crossingCall s cells order table work ≡ record { run = Refused (suc n); counts = 0 ∷ 0 ∷ 0 ∷ 0 ∷ 0 ∷ 0 ∷ 0 ∷ 0 ∷ 0 ∷ 0 ∷ 0 ∷ 0 ∷ 0 ∷ 0 ∷ 0 ∷ 0 ∷ 0 ∷ [] }) × (crossingTable s cells order table work ≡ table)
+  pub refused : (n : ℕ) → refusal ≡ suc n
+      → (told .run ≡ Refused (suc n)) × (length (told .counts) ≡ 17) × ((class : ℕ) → getD (told .counts) class 0 ≡ 0) × (left ≡ table)
 
 pub record Tallies : Type 0 where
-  pub reports : (s : Shape) (cells : List ℤ) (order table : List ℕ) (work : ℕ) → Typed s → CrossingReports s cells order table work
+  pub reports : (s : Shape) (cells : List ℤ) (order table : List ℕ) (work : ℕ) → Typed s
+      → CrossingReports s cells order table work (crossingRunCause s cells order table work) (crossingCall s cells order table work)
+      (crossingTable s cells order table work)

@@ -18,13 +18,13 @@ use Rattle.text.specs.declared.Tally.{Tally}
 use Rattle.text.specs.declared.Decision.{Decision}
 use Rattle.text.specs.Spelling.{inner, allInner, headed}
 use Rattle.line.specs.Parsing.{next, line}
-use Rattle.text.specs.Parsing.{only, allLines, linesOf}
+use Rattle.text.specs.Parsing.{allLines, linesOf}
 use Rattle.text.specs.Plans.{cellsIn, shapeIn, agrees}
 use Rattle.text.specs.Reader.{linesCause, readCause, textShape, textCells}
 use Rattle.line.specs.Places.{Line-at}
 use Rattle.text.specs.Counting.{noneYet, unformed, addLayer, addRect, addLines, addIf, tallyFrom, tallyCause}
 use Rattle.text.specs.Filling.{restCells, refusedBy, Decided}
-use Rattle.text.proofs.Parsing.{first-then, first-none}
+use Rattle.text.proofs.Parsing.{only, first-then, first-none}
 use Rattle.text.proofs.Counting.{few-none, few-lines}
 use Rattle.text.proofs.Sound.{counted-cells}
 use Rattle.text.proofs.Verdict.{Agreed, agreed, verdict}
@@ -70,7 +70,7 @@ unfolding linesOf
 lines-none [] e = refl
 lines-none (b ∷ s) e = rw (first-none (b ∷ s) (omega arith) e)
 
-headless : (l : Line) (o : Option (List Line)) → inner l ≡ true → only headed (next o (λ ls. some (l ∷ ls))) ≡ none
+headless : (l : Line) (o : Option (List Line)) → inner l ≡ true → only (next o (λ ls. some (l ∷ ls))) ≡ none
 headless (Plan k) o h = clash h refl
 headless (Layer n m) none h = refl
 headless (Layer n m) (some ls) h = refl
@@ -79,9 +79,9 @@ headless (Rectangle r) (some ls) h = refl
 
 pub lines-other : (s : List ℕ) (l : Line) (i : ℕ) → inner l ≡ true → Line-at s 0 l i → linesOf s ≡ none
 unfolding linesOf
-lines-other s l i h p = ap (only headed) (first-then s (l, drop i s) (p .reads)) ∙ headless l (allLines (drop i s)) h
+lines-other s l i h p = ap only (first-then s (l, drop i s) (p .reads)) ∙ headless l (allLines (drop i s)) h
 
-headed-is : (k : ℤ) (o : Option (List Line)) → only headed (next o (λ ls. some (Plan k ∷ ls))) ≡ headOf k o
+headed-is : (k : ℤ) (o : Option (List Line)) → only (next o (λ ls. some (Plan k ∷ ls))) ≡ headOf k o
 headed-is k none = refl
 headed-is k (some ls) = refl
 
@@ -100,7 +100,7 @@ pub record Accepted (s : List ℕ) (k : ℤ) (i : ℕ) (t : Tally) : Type 0 wher
 module _ (s : List ℕ) (k : ℤ) (i : ℕ) (p : Line-at s 0 (Plan k) i) where
   lines-are : linesOf s ≡ headOf k (allLines (drop i s))
   unfolding linesOf
-  lines-are = ap (only headed) (first-then s (Plan k, drop i s) (p .reads)) ∙ headed-is k (allLines (drop i s))
+  lines-are = ap only (first-then s (Plan k, drop i s) (p .reads)) ∙ headed-is k (allLines (drop i s))
 
   pub tally-tells : tallyCause k (tallyFrom noneYet (drop i s)) ≡ formCause (linesOf s)
   unfolding tallyFrom

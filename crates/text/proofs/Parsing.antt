@@ -18,6 +18,10 @@ use Rattle.line.specs.Parsing.{next, line}
 use Rattle.text.specs.Parsing.{linesBy, linesIn, allLines, linesOf}
 use Rattle.text.proofs.Spelling.{line-then}
 
+-- lines, where they are headed
+abbrev pub only : Option (List Line) → Option (List Line)
+only o = next o (λ ls. cond (headed ls) (some ls) none)
+
 first-line : (g : List ℕ → Option (List Line)) (l : Line) (r : List ℕ)
     → linesBy g (spellTo l r) ≡ next (line (spellTo l r)) (λ p. next (g (p .1)) (λ ls. some (p .0 ∷ ls)))
 first-line g (Plan k) r = refl

@@ -14,9 +14,9 @@ use Rattle.lists.proofs.Tests.{clash, both, and-true}
 use Rattle.lists.proofs.Padding.{padded-front}
 use Rattle.plan.specs.declared.Shape.{Shape}
 use Rattle.plan.specs.Plan.{sizesOf, planCause, Sound}
-use Rattle.plan.specs.Theorems.{Sized, Margined}
+use Rattle.plan.specs.Theorems.{Bounded}
 use Rattle.plan.proofs.Plan.{Checked, checked, front-sum, count-is, few}
-use Rattle.plan.proofs.Theorems.{plans}
+use Rattle.plan.proofs.Theorems.{plan-passed}
 use Rattle.decimal.specs.Numerals.{mostDigits}
 use Rattle.decimal.proofs.Numerals.{size-below}
 use Rattle.line.specs.declared.Line.{Line}
@@ -70,8 +70,8 @@ module _ (s : Shape) (plan : List ℤ) (sound : Sound s plan) where
   fit = checked s plan sound
 
   -- its sizes and margins are in range, and 0 past k
-  right : Sized s × Margined s
-  right = let c = plans .causes s plan .none .0 (sound .passed) in (c .1, c .2)
+  right : Bounded 512 (s .k) (s .sizes) × Bounded 50000 (s .k) (s .margins)
+  right = let c = plan-passed s plan .0 (sound .passed) in (c .1, c .2)
 
   -- the margins of the layers
   abbrev margins : List ℕ

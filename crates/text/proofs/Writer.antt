@@ -13,17 +13,17 @@ use Rattle.lists.proofs.Stores.{put-start}
 use Rattle.text.specs.declared.Writing.{Writing}
 use Rattle.text.specs.declared.Writing.the-variants.{Written, Refused}
 use Rattle.text.specs.Plans.{textOf}
-use Rattle.text.specs.Writer.{writeCause, writeAnswer, writeLength, numberOf, lengthOf, bufferAfter}
+use Rattle.text.specs.Writer.{writeCause, writeAnswer, numberOf, bufferAfter}
 
 module _ (s : Shape) (cells : List ℤ) (buf : List ℕ) where
   -- what the contract says of an answer and of the buffer afterwards
   abbrev Answered : Writing → List ℕ → Type 0
   Answered w after =
-      (w ≡ writeAnswer s cells (length buf)) × ((numberOf w ≡ writeCause s cells (length buf)) × ((lengthOf w ≡ writeLength s cells (length buf)) × (after ≡ bufferAfter s cells buf)))
+      (w ≡ writeAnswer s cells (length buf)) × ((numberOf w ≡ writeCause s cells (length buf)) × (after ≡ bufferAfter s cells buf))
 
   refused : (cause : ℕ) → (cause ≡ 0 → ⊥) → writeCause s cells (length buf) ≡ cause → Answered (Refused cause) buf
   refused zero n e = absurd (n refl)
-  refused (suc cause) n e = rw e (refl, (refl, (refl, refl)))
+  refused (suc cause) n e = rw e (refl, (refl, refl))
 
   pub unsound : (cause : ℕ) → (cause ≡ 0 → ⊥) → cause ≡ planCause s cells → Answered (Refused cause) buf
   unfolding writeCause
@@ -40,4 +40,4 @@ module _ (s : Shape) (cells : List ℤ) (buf : List ℕ) where
     written last r h p =
         let e : writeCause s cells (length buf) ≡ 0 = rw (sym sound, le-leb (length (textOf s cells)) (length buf) (omega arith)) in
         let w = put-start buf last (textOf s cells) r (omega arith) p in
-        rw (e, long) (refl, (refl, (refl, w)))
+        rw (e, long) (refl, (refl, w))

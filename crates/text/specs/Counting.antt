@@ -44,7 +44,15 @@ layerRight t n m = eqb (t .due) 0 && (ltb (t .layers) 6 && (upTo (pos mostSize) 
 -- the tally with a layer of n rectangles and the margin m more
 abbrev pub withLayer : Tally → (n m : ℕ) → Tally
 withLayer t n m =
-    record { formed = t .formed; good = t .good; due = n; layers = t .layers + 1; rects = t .rects + n; sizes = set (t .sizes) (t .layers) n; margins = set (t .margins) (t .layers) m }
+    record {
+      formed = t .formed;
+      good = t .good;
+      due = n;
+      layers = t .layers + 1;
+      rects = t .rects + n;
+      sizes = set (t .sizes) (t .layers) n;
+      margins = set (t .margins) (t .layers) m;
+    }
 
 -- one layer more, or a spoilt tally
 unfoldable pub addLayer : Tally → (n m : ℤ) → Tally

@@ -1,17 +1,12 @@
--- The lines of a whole text, read from its start: a test for `Formed` (specs/Spelling.antt) that also gives the lines.
+-- The lines of a whole text, read from its start.
 use mathlib.Core.List.{List, [], _∷_}
 use mathlib.Core.Option.{Option, none, some}
-use mathlib.Core.Bool.{Bool, cond}
+use mathlib.Core.Bool.{cond}
 use Prim.Native.Nat.{ℕ, zero, suc}
 use lib.ListN.{length}
 use Rattle.line.specs.declared.Line.{Line}
 use Rattle.line.specs.Parsing.{next, line}
 use Rattle.text.specs.Spelling.{headed}
-use Rattle.lists.specs.Lists.{isSome}
-
--- the value where it passes the test
-abbrev pub only : {A : Type 0} → (A → Bool) → Option A → Option A
-only f o = next o (λ a. cond (f a) (some a) none)
 
 -- a text is at its end, or it has a line, and g reads on behind it
 abbrev pub linesBy : (List ℕ → Option (List Line)) → List ℕ → Option (List Line)
@@ -27,10 +22,6 @@ linesIn (suc f) = linesBy (linesIn f)
 abbrev pub allLines : List ℕ → Option (List Line)
 allLines t = linesIn (length t) t
 
--- the lines of a well formed text
+-- 01: "The text is well formed when it is a PLAN line followed by any LAYER and RECT lines so spelled": its lines, where it is (specs/Theorems.antt, `Formed`)
 unfoldable pub linesOf : List ℕ → Option (List Line)
-linesOf t = only headed (allLines t)
-
--- 01: "The text is well formed when it is a PLAN line followed by any LAYER and RECT lines so spelled." It is true just of what is `Formed` (specs/Theorems.antt, `formed`)
-unfoldable pub wellFormed : List ℕ → Bool
-wellFormed t = isSome (linesOf t)
+linesOf t = next (allLines t) (λ ls. cond (headed ls) (some ls) none)

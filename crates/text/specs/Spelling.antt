@@ -1,5 +1,4 @@
 -- What a well formed text is: lines, spelled one behind the other. 01: "a PLAN line followed by any LAYER and RECT lines so spelled"
-use mathlib.Core.Path.{_≡_}
 use mathlib.Core.List.{List, [], _∷_}
 use mathlib.Core.Bool.{Bool, true, false, _&&_}
 use Prim.Native.Nat.{ℕ}
@@ -34,10 +33,3 @@ headed (Rectangle b ∷ ls) = false
 abbrev pub allShort : List Line → Bool
 allShort [] = true
 allShort (l ∷ ls) = shortLine l && allShort ls
-
--- a text is the bytes of a PLAN line followed by LAYER and RECT lines, with numbers of at most eight digits
-pub record Formed (t : List ℕ) : Type 0 where
-  pub lines : List Line
-  pub first : headed lines ≡ true
-  pub short : allShort lines ≡ true
-  pub text : t ≡ spell lines

@@ -29,10 +29,6 @@ abbrev pub lengthOf : Writing → ℕ
 lengthOf (Written size) = size
 lengthOf (Refused cause) = 0
 
--- the length that the writer returns
-abbrev pub writeLength : Shape → List ℤ → ℕ → ℕ
-writeLength s cells room = onCause (writeCause s cells room) (length (textOf s cells)) (λ n. 0)
-
 -- the lent buffer afterwards. 01: "puts the one text of a plan at the start of its buffer, returns the length and keeps the rest"; a refusal keeps all
 abbrev pub bufferAfter : Shape → List ℤ → List ℕ → List ℕ
 bufferAfter s cells buf = onCause (writeCause s cells (length buf)) (textOf s cells ++ drop (length (textOf s cells)) buf) (λ n. buf)

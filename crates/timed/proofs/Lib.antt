@@ -1,3 +1,4 @@
 pub mod Minutes
 pub mod Timed
+pub mod Week
 pub mod Theorems

@@ -13,7 +13,7 @@ ghost use lib.ListN.{length, take};
 ghost use Rattle.lists.specs.Lists.{sum};
 ghost use Rattle.rows.specs.RowCall.{fits};
 ghost use Rattle.windows.specs.Windows.{windowAt, isWindow, areHours, both, isOpen, hoursOf};
-ghost use Rattle.windows.specs.HoursCall.{hoursCause, hoursCall};
+ghost use Rattle.windows.specs.HoursCall.{hoursCause, hoursCall, hoursValues};
 
 // The minutes of a week.
 const WEEK: u32 = 10080;
@@ -106,7 +106,8 @@ pub fn hours_cause(shape: Shape, cells: &[i32], hours: &[u32]) -> u32
 
 // The first minute that the windows of the row in the lent cells share, and the first after them.
 pub fn row_hours(shape: Shape, cells: &[i32], hours: &[u32], places: &[u32]) -> HoursAnswer
-    ensures { λ r. ⌜ r ≡ hoursCall shape (now (cells .entry)) (now (hours .entry)) (now (places .entry)) ⌝ }
+    ensures answer { λ r. ⌜ r ≡ hoursCall shape (now (cells .entry)) (now (hours .entry)) (now (places .entry)) ⌝ }
+    ensures values { λ r. ⌜ hoursValues r ≡ hoursValues (hoursCall shape (now (cells .entry)) (now (hours .entry)) (now (places .entry))) ⌝ }
 {
     let cause = hours_cause(shape, cells, hours);
     if cause != 0 {

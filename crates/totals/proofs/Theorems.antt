@@ -10,7 +10,6 @@ unfolding valueOf totalOf
 totals = record {
   says = value-total;
   value = λ t. refl;
-  metres = λ n. refl;
-  rest = λ n. (refl, omega arith);
+  rest = λ n. omega arith;
   only = λ t n h e. made-total (t .metres) (t .rest) n h e;
 }

@@ -15,8 +15,8 @@ totalOf n = record { metres = n / metre; rest = n % metre }
 unfoldable pub valueOf : Total → ℕ
 valueOf t = t .metres * metre + t .rest
 
--- a total as sums keep it: its rest is below a square metre, and there is room for more metres. No public contract cites it. Its bound, 2^63, is half of what 64
--- bits take; sums stay far below: 1,000,000 rows of at most 404,010,000 square metres each
+-- a total as sums keep it: its rest is below a square metre, and there is room for more metres. No public contract cites it. Its bound, 2^63, is half of what
+-- 64 bits take; sums stay far below: 1,000,000 rows of at most 404,010,000 square metres each
 pub record Kept (t : Total) : Type 0 where
   pub rest : t .rest < metre
   pub metres : t .metres < 9223372036854775808

@@ -3,7 +3,6 @@ use mathlib.Core.Path.{_≡_, refl, sym, ap, _∙_, subst}
 use mathlib.Core.List.{List, [], _∷_}
 use mathlib.Core.Bool.{Bool, true}
 use mathlib.Core.Logic.{_↔_}
-use mathlib.Core.Option.{some}
 use Prim.Native.Nat.{ℕ, zero, suc, _≤_, _<_}
 use native.Mathlib.Omega.{arith}
 use lib.IntN.{ℤ}
@@ -13,7 +12,10 @@ use borrow.Author.Tests.{lt-ltb, le-ltb}
 use Rattle.lists.specs.Lists.{without}
 use Rattle.lists.proofs.Kept.{length-without}
 use Rattle.geometry.specs.declared.Rect.{Rect}
+use Rattle.geometry.specs.Rectangles.{kindOf, meeting}
 use Rattle.geometry.proofs.Integers.{zarith}
+use Rattle.geometry.proofs.Rectangles.{meeting-common}
+use Rattle.geometry.proofs.Sides.{meets-handed}
 use Rattle.plan.specs.Plan.{Layer}
 use Rattle.plan.specs.Spots.{Spot, layerAt, Has, rectOf}
 use Rattle.plan.proofs.Spots.{has-layer}
@@ -28,8 +30,8 @@ slot-holds test Left l t = (
   refl,
   λ c d p.
       let r = l .rect p in (
-        λ e. let k = passed c r d (test (r .left)) e in (k .0, t (r .left) .0 (k .1), k .2),
-        λ h. rw (h .0, t (r .left) .1 (h .1)) (ap some (h .2)),
+        λ e. let k = passed c r d (test (r .left)) e in (t (r .left) .0 (k .1), rw (k .2) at (meets-handed c r .0 (k .0))),
+        λ h. let k = meeting-common c r (meeting c r) refl d (kindOf d) (h .1) in rw (k .0, t (r .left) .1 (h .0), sym (k .1)),
       ),
 )
 

@@ -22,7 +22,7 @@ use Rattle.windows.specs.declared.Window.{Window}
 use Rattle.windows.specs.declared.HoursAnswer.the-variants.{Refused, NoRow, Shared}
 use Rattle.windows.specs.Windows.{isOpen, hoursOf}
 use Rattle.windows.specs.HoursCall.{hoursCause, hoursCall}
-use Rattle.windows.proofs.Theorems.{hours-causes}
+use Rattle.windows.proofs.Theorems.{hours-passed}
 
 module _ (s : Shape) (cells : List ℤ) (hours places : List ℕ) where
   pub refused-is : (n : ℕ) → n ≡ hoursCause s cells hours → (n ≡ 0 → ⊥) → Refused n ≡ hoursCall s cells hours places
@@ -32,7 +32,7 @@ module _ (s : Shape) (cells : List ℤ) (hours places : List ℕ) where
 
   module _ (passed : hoursCause s cells hours ≡ 0) where
     plan-passed : planCause s cells ≡ 0
-    plan-passed = hours-causes s cells hours .none .0 passed .0
+    plan-passed = hours-passed s cells hours .0 passed .0
 
     -- ---- what the row call tells
     told : rowCall s cells places ≡ (let ls = layers s cells in cond (isRow ls places) (row.Row (suc (guardLayer (rects ls places))) (areaIn ls places)) row.NoRow)
@@ -71,7 +71,7 @@ module _ (s : Shape) (cells : List ℤ) (hours places : List ℕ) where
           let f = framed s cells sound in
           let k = both (fits (sizesIn (layers s cells)) places) (nonempty (commonOf (rects (layers s cells) places))) a-row in (
             (omega (arith, checked s cells sound .low), f .0),
-            (ap (λ (ns : List ℕ). fits ns places) (sym (sizes-of (sizesOf s) (grown s cells))) ∙ k .0, omega (arith, hours-causes s cells hours .none .0 passed .1 .0, front-sum s cells (checked s cells sound))),
+            (ap (λ (ns : List ℕ). fits ns places) (sym (sizes-of (sizesOf s) (grown s cells))) ∙ k .0, omega (arith, hours-passed s cells hours .0 passed .1 .0, front-sum s cells (checked s cells sound))),
           )
 
       pub row-told : (w : Window) → w ≡ hoursOf (sizesOf s) hours places → (t : Bool) → t ≡ isOpen w → cond t (Shared (w .from) (w .to)) NoRow ≡ hoursCall s cells hours places

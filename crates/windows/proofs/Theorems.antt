@@ -1,9 +1,9 @@
 -- The promises on windows hold of every plan, for every k.
-use mathlib.Core.Path.{_≡_, sym, ap, _∙_}
+use mathlib.Core.Path.{_≡_, refl, sym, _∙_, subst}
 use mathlib.Core.List.{List, [], _∷_, List·Memᴰ}
 use mathlib.Core.Bool.{true, false, _&&_}
 use mathlib.Core.Logic.{_↔_}
-use Prim.Native.Nat.{ℕ, _-_, _*_, _≤_, _<_}
+use Prim.Native.Nat.{ℕ, suc, _-_, _*_, _≤_, _<_}
 use native.Mathlib.Nat.{le-refl}
 use native.Mathlib.Omega.{arith}
 use lib.IntN.{ℤ}
@@ -13,18 +13,21 @@ use borrow.Author.Tests.{ltb-true, lt-ltb, leb-true, le-leb, eqb-true, eq-eqb}
 use Rattle.lists.specs.Lists.{All, none-left, _and_, Tells, sum}
 use Rattle.lists.proofs.Tests.{both as two, and-true, never-true, tells, below-at, below-all}
 use Rattle.plan.specs.declared.Shape.{Shape}
+use Rattle.plan.specs.Causes.{Check, Passed}
 use Rattle.plan.specs.Plan.{sizesOf, layers, planCause, Sound, grown}
-use Rattle.plan.proofs.Plan.{plan-not, check-passed, check-failed, check-others}
+use Rattle.plan.specs.Theorems.{PlanChecks}
+use Rattle.plan.proofs.Plan.{check-passed}
+use Rattle.plan.proofs.Theorems.{plan-last}
 use Rattle.plan.proofs.Growing.{framed}
-use Rattle.join.specs.Table.{tableOf}
+use Rattle.join.specs.Table.{planTable}
 use Rattle.join.specs.Theorems.{TableHolds}
 use Rattle.join.proofs.Theorems.{tables}
 use Rattle.rows.specs.RowCall.{isRow}
 use Rattle.rows.proofs.Theorems.{rows}
 use Rattle.windows.specs.declared.Window.{Window}
-use Rattle.windows.specs.Windows.{windowAt, isWindow, allWindows, areHours, both, within, layerHours, hoursOf, sharesMinute}
+use Rattle.windows.specs.Windows.{windowAt, isWindow, allWindows, areHours, both, within, sharedBy, layerHours, windowsAt, hoursOf, sharesMinute}
 use Rattle.windows.specs.HoursCall.{hoursCause, hoursCall, HoursValues, hoursValues}
-use Rattle.windows.specs.Theorems.{Minute, InAll, Share, MinutesHold, RowWindows, Stated, HoursCauses, windowsOf, HoursHold, Hours}
+use Rattle.windows.specs.Theorems.{Minute, InAll, Share, IsFirst, IsAfter, MinutesHold, RowWindows, Stated, HoursHold, Hours}
 use Rattle.windows.proofs.Shared.{open-is, is-open, window-layer, hours-long, windows-long, windows-nth}
 
 -- ---- minutes
@@ -42,8 +45,6 @@ minutes-hold : (w : Window) (ws : List Window) → MinutesHold (w ∷ ws)
 minutes-hold w ws = record {
   minutes = minutes;
   test = (λ e. (s .from, minutes (s .from) .0 (le-refl (s .from), open-is s e)), λ h. is-open s (some-open h));
-  first = λ h. (minutes (s .from) .0 (le-refl (s .from), some-open h), λ m k. minutes m .1 k .0);
-  after = λ h. (λ m k. minutes m .1 k .1, λ n f. omega (arith, some-open h, f (s .to - 1) (minutes (s .to - 1) .0 (omega (arith, some-open h)))));
 }
   where
     s : Window
@@ -59,8 +60,21 @@ pub some-minutes : (ws : List Window) → 1 ≤ length ws → MinutesHold ws
 some-minutes [] h = absurd (omega arith)
 some-minutes (w ∷ ws) h = minutes-hold w ws
 
+-- where they share a minute, the ends of their shared window are the first of them and the first after them
+ends : (ws : List Window) → MinutesHold ws → Share ws → let s = sharedBy ws in IsFirst ws (s .from) × IsAfter ws (s .to)
+ends ws k h = (
+  (k .minutes (s .from) .0 (le-refl (s .from), some-open), λ m i. k .minutes m .1 i .0),
+  (λ m i. k .minutes m .1 i .1, λ n f. omega (arith, some-open, f (s .to - 1) (k .minutes (s .to - 1) .0 (omega (arith, some-open))))),
+)
+  where
+    s : Window
+    s = sharedBy ws
+
+    some-open : s .from < s .to
+    some-open = omega (arith, k .minutes (h .0) .1 (h .1))
+
 -- ---- the windows of a row
-pub row-windows : (ns hours row : List ℕ) → length row ≡ length ns → RowWindows ns hours row
+pub row-windows : (ns hours row : List ℕ) → length row ≡ length ns → RowWindows ns hours row (windowsAt (layerHours ns hours) row)
 unfolding windowAt
 row-windows ns hours row e = record {
   long = windows-long hs row long ∙ hours-long ns hours;
@@ -92,50 +106,58 @@ stated s hours =
     n : ℕ
     n = sum (s .sizes)
 
-pub hours-causes : (s : Shape) (cells : List ℤ) (hours : List ℕ) → HoursCauses s cells hours
-unfolding hoursCause hoursCall
-hours-causes s cells hours = record {
-  none = check-passed (planCause s cells) 23 (λ e. stated s hours);
-  twentyFour = check-failed (planCause s cells) 23 (plan-not s cells 24 (omega arith) (λ e. omega arith)) (λ e. stated s hours);
-  others = λ n p x. check-others (planCause s cells) (areHours (sum (s .sizes)) hours) 24 n p x;
-  refused = λ n e row. rw e;
-}
+pub hours-checks : (s : Shape) (cells : List ℤ) (hours : List ℕ) → PlanChecks s cells (Check 24 (Stated s hours) Passed) (hoursCause s cells hours)
+unfolding hoursCause
+hours-checks s cells hours = plan-last s cells 24 (λ e. stated s hours)
+
+-- they pass exactly with their plan, and where they are as stated
+pub hours-passed : (s : Shape) (cells : List ℤ) (hours : List ℕ) → (hoursCause s cells hours ≡ 0) ↔ ((planCause s cells ≡ 0) × Stated s hours)
+unfolding hoursCause
+hours-passed s cells hours = check-passed (planCause s cells) 23 (λ e. stated s hours)
+
+hours-refused : (s : Shape) (cells : List ℤ) (hours row : List ℕ) (n : ℕ) → hoursCause s cells hours ≡ suc n
+    → hoursValues (hoursCall s cells hours row) ≡ record { number = suc n; from = 0; to = 0 }
+unfolding hoursCall
+hours-refused s cells hours row n e = rw e
 
 -- ---- the call
-module _ (s : Shape) (cells : List ℤ) (hours : List ℕ) (sound : Sound s cells) (passed : hoursCause s cells hours ≡ 0) where
-  call-shared : (row : List ℕ) → isRow (layers s cells) row ≡ true → sharesMinute (sizesOf s) hours row ≡ true
-      → let w = hoursOf (sizesOf s) hours row in hoursValues (hoursCall s cells hours row) ≡ record { number = 0; from = w .from; to = w .to }
-  unfolding hoursCall
-  call-shared row e f = rw (passed, e, f)
+module _ (s : Shape) (cells : List ℤ) (hours : List ℕ) (sound : Sound s cells) (windows : Stated s hours) (row : List ℕ) where
+  passed : hoursCause s cells hours ≡ 0
+  passed = hours-passed s cells hours .1 (sound .passed, windows)
 
-  call-none : (row : List ℕ) → (isRow (layers s cells) row && sharesMinute (sizesOf s) hours row) ≡ false → hoursValues (hoursCall s cells hours row) ≡ record { number = 0; from = 0; to = 0 }
+  -- the windows of the row, and what they share
+  abbrev own : List Window
+  own = windowsAt (layerHours (sizesOf s) hours) row
+
+  abbrev shared : Window
+  shared = hoursOf (sizesOf s) hours row
+
+  call-shared : isRow (layers s cells) row ≡ true → sharesMinute (sizesOf s) hours row ≡ true
+      → hoursValues (hoursCall s cells hours row) ≡ record { number = 0; from = shared .from; to = shared .to }
   unfolding hoursCall
-  call-none row e = rw (passed, e)
+  call-shared e f = rw (passed, e, f)
+
+  call-none : (isRow (layers s cells) row && sharesMinute (sizesOf s) hours row) ≡ false → hoursValues (hoursCall s cells hours row) ≡ record { number = 0; from = 0; to = 0 }
+  unfolding hoursCall
+  call-none e = rw (passed, e)
 
   -- the table, and what a row of it is
   holds : TableHolds (sizesOf s) (grown s cells)
   holds = tables .tables (sizesOf s) (grown s cells) (framed s cells sound .1)
 
-  minutes-of : (row : List ℕ) → List·Memᴰ row (tableOf (sizesOf s) (grown s cells)) → MinutesHold (windowsOf s hours row)
-  minutes-of row m =
-      some-minutes (windowsOf s hours row) (omega (arith, row-windows (sizesOf s) hours row (holds .rows row m .long) .long, framed s cells sound .1 .some))
+  minutes-of : List·Memᴰ row (planTable s cells) → MinutesHold own
+  minutes-of m = some-minutes own (omega (arith, row-windows (sizesOf s) hours row (holds .rows row m .long) .long, framed s cells sound .1 .some))
 
-  named : (row : List ℕ) → (isRow (layers s cells) row ≡ true) ↔ List·Memᴰ row (tableOf (sizesOf s) (grown s cells))
-  named row = let n = rows .rows s cells sound .names row in (λ e. holds .is .complete row (n .0 e), λ m. n .1 (holds .is .sound row m))
+  named : (isRow (layers s cells) row ≡ true) ↔ List·Memᴰ row (planTable s cells)
+  named = let n = rows .rows s cells sound .names row in (λ e. holds .is .complete row (n .0 e), λ m. n .1 (holds .is .sound row m))
 
-  hours-hold : HoursHold s cells hours
+  hours-hold : HoursHold (planTable s cells) row own (hoursValues (hoursCall s cells hours row))
   hours-hold = record {
-    call = λ row m h. let k = minutes-of row m in (w row .from, w row .to, (k .first h, k .after h, values row m h));
-    marked = λ row m h e. omega (arith, minutes-of row m .after h .0 (h .0) (h .1), ap (λ (v : HoursValues). v .to) (values row m h), e);
-    others = λ row f. call-none row (never-true _ (λ e. let b = two (isRow (layers s cells) row) (sharesMinute (sizesOf s) hours row) e in let m = named row .0 (b .0) in f (m, minutes-of row m .test .0 (b .1))));
+    call = λ m h.
+        let k = minutes-of m in
+        subst (λ (v : HoursValues). (v .number ≡ 0) × IsFirst own (v .from) × IsAfter own (v .to)) (sym (call-shared (named .1 m) (k .test .1 h))) (refl, ends own k h .0, ends own k h .1);
+    others = λ f. call-none (never-true _ (λ e. let b = two (isRow (layers s cells) row) (sharesMinute (sizesOf s) hours row) e in let m = named .0 (b .0) in f (m, minutes-of m .test .0 (b .1))));
   }
-    where
-      w : List ℕ → Window
-      w row = hoursOf (sizesOf s) hours row
-
-      values : (row : List ℕ) → List·Memᴰ row (tableOf (sizesOf s) (grown s cells)) → Share (windowsOf s hours row)
-          → hoursValues (hoursCall s cells hours row) ≡ record { number = 0; from = w row .from; to = w row .to }
-      values row m h = call-shared row (named row .1 m) (minutes-of row m .test .1 h)
 
 pub hours : Hours
-hours = record { minutes = minutes-hold; windows = row-windows; causes = hours-causes; hours = hours-hold }
+hours = record { minutes = minutes-hold; windows = row-windows; causes = hours-checks; refused = hours-refused; hours = hours-hold }

@@ -9,13 +9,13 @@ use put::put_plan;
 use text::Writing;
 ghost use mathlib.Core.Path.{_≡_};
 ghost use lib.ListN.{length};
-ghost use Rattle.text.specs.Writer.{writeCause, writeAnswer, writeLength, numberOf, lengthOf, bufferAfter};
+ghost use Rattle.text.specs.Writer.{writeCause, writeAnswer, numberOf, lengthOf, bufferAfter};
 
 // Writes the text of a plan at the start of a lent buffer, or tells why not.
 pub fn write(shape: Shape, cells: &[i32], buf: &mut [u8]) -> Writing
     ensures answer { λ r. ⌜ r ≡ writeAnswer shape (now (cells .entry)) (length (now (buf .entry))) ⌝ }
     ensures number { λ r. ⌜ numberOf r ≡ writeCause shape (now (cells .entry)) (length (now (buf .entry))) ⌝ }
-    ensures length { λ r. ⌜ lengthOf r ≡ writeLength shape (now (cells .entry)) (length (now (buf .entry))) ⌝ }
+    ensures length { λ r. ⌜ lengthOf r ≡ lengthOf (writeAnswer shape (now (cells .entry)) (length (now (buf .entry)))) ⌝ }
     ensures buffer { λ _. ⌜ now (buf .exit) ≡ bufferAfter shape (now (cells .entry)) (now (buf .entry)) ⌝ }
 {
     let cause = plan_cause(shape, cells);

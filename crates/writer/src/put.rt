@@ -55,7 +55,8 @@ fn put_layers<'a>(
     requires { ⌜ (k ≤ length (now sizes)) × (k ≤ length (now margins)) × (k ≤ 6) × (length (now cells) ≡ 4 * sum (take k (now sizes))) ⌝ }
     requires { ⌜ allShort (layerLines (take k (now sizes)) (take k (now margins)) (now cells)) ≡ true ⌝ }
     requires { ⌜ from + length (spell (layerLines (take k (now sizes)) (take k (now margins)) (now cells))) ≤ length (now buf) ⌝ }
-    ensures { λ r. ⌜ Put (now (buf .entry)) from (spell (layerLines (take k (now (sizes .entry))) (take k (now (margins .entry))) (now (cells .entry)))) (now (buf .exit)) r ⌝ }
+    ensures { λ r. ⌜ Put (now (buf .entry)) from
+        (spell (layerLines (take k (now (sizes .entry))) (take k (now (margins .entry))) (now (cells .entry)))) (now (buf .exit)) r ⌝ }
 {
     let mut at = from;
     let mut start: usize = 0;

@@ -18,7 +18,7 @@ pair-number-requires c κs = search needs
 
 returns : tie.Need-returns
 returns c =
-    let answer = c .before .before .apart-pair .ensures in
+    let answer = c .before .before .apart-pair .ensures .0 in
     (c .pair-number .ensures ∙ ap (λ (r : PairAnswer). pairValues r .number) answer, c .before .pair-cells .ensures ∙ ap (λ (r : PairAnswer). pairCells (pairValues r)) answer)
 
 pub overlay-apart-pair-spec : {M : Type 1} → statement M

@@ -6,7 +6,7 @@ use lib.ListN.{length}
 use lib.Ieee.{Float}
 use Rattle.survey.specs.declared.Strip.{Strip}
 use Rattle.survey.specs.declared.Covering.{Covering}
-use Rattle.survey.specs.CoverCall.{coverCause, coverAnswer, coverValues, coverAfter}
+use Rattle.survey.specs.CoverCall.{CoverValues, coverCause, coverAnswer, coverValues, coverAfter}
 use borrow.Author.Needs.{needs}
 use Rattle.capi.proofs.overlay_cover_records.Statement.{statement}
 use Rattle.capi.proofs.overlay_cover_records.Tie as tie
@@ -14,7 +14,9 @@ use Rattle.capi.proofs.overlay_cover_records.Tie as tie
 -- what the call says of two strips, it says of equal ones
 module _ (s : List Float) (cells last : List ℤ) (r : Covering) where
   abbrev Covered : Strip → Strip → Type 0
-  Covered a u = (r ≡ coverAnswer a u s (length cells)) × ((coverValues r .number ≡ coverCause a u s (length cells)) × (last ≡ coverAfter a u s cells))
+  Covered a u =
+      let told = coverAnswer a u s (length cells) in
+      (r ≡ told) × ((coverValues r ≡ coverValues told) × ((coverValues r .number ≡ coverCause a u s (length cells)) × (last ≡ coverAfter a u s cells)))
 
   covered-as : {a b u v : Strip} → a ≡ b → u ≡ v → Covered a u → Covered b v
   covered-as e f h = subst₂ Covered e f h
@@ -61,7 +63,7 @@ returns c =
     let u : tie.After-strip-in2 = search needs in
     let a : tie.After-strip-in = search needs in
     let e = covered-as _ _ _ _ (a .strip-in .ensures) (u .strip-in2 .ensures) (k .cover-records .ensures) in
-    (c .covering-number .ensures ∙ e .1 .0, (c .before .covering-kept .ensures ∙ ap (λ (r : Covering). coverValues r .kept) (e .0), e .1 .1))
+    (c .covering-number .ensures ∙ e .1 .1 .0, c .before .covering-kept .ensures ∙ ap (λ (v : CoverValues). v .kept) (e .1 .0), e .1 .1 .1)
 
 pub overlay-cover-records-spec : {M : Type 1} → statement M
 overlay-cover-records-spec =

@@ -1,6 +1,6 @@
 -- `capi::overlay_crossing_report`: number, cells and counts are those of the values.
 use mathlib.Core.Path.{ap, _∙_}
-use Rattle.paging.specs.declared.CrossingReport.{CrossingReport}
+use Rattle.tally.specs.declared.CrossingReport.{CrossingReport}
 use Rattle.paging.specs.Calls.{runValues}
 use Rattle.cells.specs.Cells.{runCells}
 use borrow.Author.Needs.{needs}
@@ -26,7 +26,7 @@ returns : tie.Need-returns
 returns c =
     let k : tie.After-crossing-report = search needs in
     let report = k .crossing-report .ensures in
-    (c .run-number .ensures ∙ ap (λ (r : CrossingReport). runValues (r .run) .number) (report .0), (c .before .run-cells .ensures ∙ ap (λ (r : CrossingReport). runCells (runValues (r .run))) (report .0), (ap (λ (r : CrossingReport). r .counts) (report .0), report .1)))
+    (c .run-number .ensures ∙ ap (λ (r : CrossingReport). runValues (r .run) .number) (report .0), c .before .run-cells .ensures ∙ ap (λ (r : CrossingReport). runCells (runValues (r .run))) (report .0), ap (λ (r : CrossingReport). r .counts) (report .0), report .1 .1 .0, report .1 .1 .1)
 
 pub overlay-crossing-report-spec : {M : Type 1} → statement M
 overlay-crossing-report-spec =

@@ -1,6 +1,7 @@
 -- `capi::overlay_fetch_page`: the page from the ticket in the cells, laid out.
 use borrow.Author.Needs.{needs}
 use mathlib.Core.Path.{ap, _∙_}
+use mathlib.Core.Option.{none}
 use Rattle.paging.specs.declared.Ticket.{Ticket}
 use Rattle.paging.specs.Calls.{pageCause, pageCall, pageTable, pageCounter}
 use Rattle.cells.specs.Cells.{shapeOf, pageCells, ticketAfter}
@@ -40,18 +41,12 @@ returns c =
     let s = shapeOf (a .k) (a .sizes .now) (a .margins .now) in
     let told = f .fetch-page .ensures in
     let from = i .ticket-in .ensures in
-    let page = told .0 ∙ ap (λ (t : Ticket). pageCall s (a .cells .now) (a .order .now) t (a .counter .now) (a .budget) (a .table .now)) from in (
-      g .stop-number .ensures ∙ (told .1 .0 ∙ ap (λ (t : Ticket). pageCause s (a .cells .now) (a .order .now) t (a .counter .now)) from),
-      (
-        q .page-cells .ensures ∙ ap pageCells page,
-        (
-          w .ticket-after .ensures ∙ ap (ticketAfter (a .ticket .now)) page,
-          (
-            told .1 .1 .0 ∙ ap (λ (t : Ticket). pageCounter s (a .cells .now) (a .order .now) t (a .counter .now) (a .budget) (a .table .now)) from,
-            told .1 .1 .1 ∙ ap (λ (t : Ticket). pageTable s (a .cells .now) (a .order .now) t (a .counter .now) (a .budget) (a .table .now)) from,
-          ),
-        ),
-      ),
+    let page = told .0 ∙ ap (λ (t : Ticket). pageCall none s (a .cells .now) (a .order .now) t (a .counter .now) (a .budget) (a .table .now)) from in (
+      g .stop-number .ensures ∙ (told .1 .0 ∙ ap (λ (t : Ticket). pageCause none s (a .cells .now) (a .order .now) t (a .counter .now)) from),
+      q .page-cells .ensures ∙ ap pageCells page,
+      w .ticket-after .ensures ∙ ap (ticketAfter (a .ticket .now)) page,
+      told .1 .1 .0 ∙ ap (λ (t : Ticket). pageCounter none s (a .cells .now) (a .order .now) t (a .counter .now) (a .budget) (a .table .now)) from,
+      told .1 .1 .1 ∙ ap (λ (t : Ticket). pageTable none s (a .cells .now) (a .order .now) t (a .counter .now) (a .budget) (a .table .now)) from,
     )
 
 pub overlay-fetch-page-spec : {M : Type 1} → statement M

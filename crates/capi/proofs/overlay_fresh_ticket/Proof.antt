@@ -20,7 +20,7 @@ returns c =
     let f : tie.After-fresh-ticket = search needs in
     let t : tie.After-ticket-cells = search needs in
     let fresh = f .fresh-ticket .ensures in
-    (ap (λ (a : Fresh). a .number) (fresh .0), (t .ticket-cells .ensures ∙ ap (λ (a : Fresh). ticketCells (a .ticket)) (fresh .0), fresh .1))
+    (ap (λ (a : Fresh). a .number) (fresh .0), t .ticket-cells .ensures ∙ ap (λ (a : Fresh). ticketCells (a .ticket)) (fresh .0), fresh .1)
 
 pub overlay-fresh-ticket-spec : {M : Type 1} → statement M
 overlay-fresh-ticket-spec =

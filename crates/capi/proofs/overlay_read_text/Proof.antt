@@ -15,7 +15,7 @@ returns : tie.Need-returns
 returns c =
     let k : tie.After-read = search needs in
     let read = k .read .ensures in
-    (read .1 .0, (ap (λ (r : Reading). r .shape .k) (read .0), (ap (λ (r : Reading). r .shape .sizes) (read .0), (ap (λ (r : Reading). r .shape .margins) (read .0), read .1 .1))))
+    (read .1 .0, ap (λ (r : Reading). r .shape .k) (read .0), ap (λ (r : Reading). r .shape .sizes) (read .0), ap (λ (r : Reading). r .shape .margins) (read .0), read .1 .1)
 
 pub overlay-read-text-spec : {M : Type 1} → statement M
 overlay-read-text-spec = tie.close (tie.spec read-requires same-length returns)

@@ -4,7 +4,7 @@ use mathlib.Core.Path.{ap, ap₂, _∙_}
 use mathlib.Core.List.{List}
 use Rattle.paging.specs.declared.Ticket.{Ticket}
 use Rattle.rounds.specs.declared.Round.{Round}
-use Rattle.rounds.specs.Rounds.{Request, request, roundCall, roundCounters, roundTable}
+use Rattle.rounds.specs.Rounds.{Request, roundCall, roundCounters, roundTable}
 use Rattle.rounds.proofs.Theorems.{rounds-hold}
 use Rattle.cells.specs.Cells.{shapeOf}
 use Rattle.roundcells.specs.RoundCells.{ticketsIn, roundCells, ticketsAfter}
@@ -37,22 +37,27 @@ returns c =
     let i : tie.After-tickets-in = search needs in
     let z : tie.Start = search needs in
     let a = z .args in
-    let ask : List Ticket → Request = λ t. request (shapeOf (a .k) (a .sizes .now) (a .margins .now)) (a .cells .now) (a .order .now) (a .m) (a .first) (a .budget) t (a .counters .now) (a .table .now) in
+    let ask : List Ticket → Request = λ t. record {
+      shape = shapeOf (a .k) (a .sizes .now) (a .margins .now);
+      cells = a .cells .now;
+      order = a .order .now;
+      clients = a .m;
+      first = a .first;
+      budget = a .budget;
+      tickets = t;
+      counters = a .counters .now;
+      table = a .table .now;
+    } in
     let told = f .round .ensures in
     let from = i .tickets-in .ensures in
     let round = told .0 ∙ ap (λ (t : List Ticket). roundCall (ask t)) from in
     let number = ap (λ (r : Round). r .number) round ∙ rounds-hold .number (ask (ticketsIn (a .tickets .now))) in (
       number,
-      (
-        ap (λ (r : Round). r .next) round,
-        (
-          p .round-cells .ensures ∙ ap (λ (r : Round). roundCells (r .pages)) round,
-          (
-            w .tickets-after .ensures ∙ ap₂ (ticketsAfter (a .tickets .now) (a .m)) number (ap (λ (r : Round). r .pages) round),
-            (told .1 .0 ∙ ap (λ (t : List Ticket). roundCounters (ask t)) from, told .1 .1 ∙ ap (λ (t : List Ticket). roundTable (ask t)) from),
-          ),
-        ),
-      ),
+      ap (λ (r : Round). r .next) round,
+      p .round-cells .ensures ∙ ap (λ (r : Round). roundCells (r .pages)) round,
+      w .tickets-after .ensures ∙ ap₂ (ticketsAfter (a .tickets .now) (a .m)) number (ap (λ (r : Round). r .pages) round),
+      told .1 .0 ∙ ap (λ (t : List Ticket). roundCounters (ask t)) from,
+      told .1 .1 ∙ ap (λ (t : List Ticket). roundTable (ask t)) from,
     )
 
 pub overlay-round-spec : {M : Type 1} → statement M

@@ -18,7 +18,7 @@ row-number-requires c κs = search needs
 
 returns : tie.Need-returns
 returns c =
-    let answer = c .before .before .row .ensures in
+    let answer = c .before .before .row .ensures .0 in
     (c .row-number .ensures ∙ ap (λ (r : RowAnswer). rowValues r .number) answer, c .before .row-cells .ensures ∙ ap (λ (r : RowAnswer). rowCells (rowValues r)) answer)
 
 pub overlay-row-spec : {M : Type 1} → statement M

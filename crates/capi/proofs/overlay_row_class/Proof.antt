@@ -17,7 +17,7 @@ class-number-requires c κs = search needs
 
 returns : tie.Need-returns
 returns c =
-    let answer = c .before .before .class-of .ensures in
+    let answer = c .before .before .class-of .ensures .0 in
     (c .class-number .ensures ∙ ap (λ (r : ClassAnswer). classValues r .number) answer, c .before .class-cell .ensures ∙ ap (λ (r : ClassAnswer). classValues r .class) answer)
 
 pub overlay-row-class-spec : {M : Type 1} → statement M

@@ -18,7 +18,7 @@ common-number-requires c κs = search needs
 
 returns : tie.Need-returns
 returns c =
-    let answer = c .before .before .row-common .ensures in
+    let answer = c .before .before .row-common .ensures .0 in
     (c .common-number .ensures ∙ ap (λ (r : CommonAnswer). commonValues r .number) answer, c .before .common-cells .ensures ∙ ap (λ (r : CommonAnswer). commonCells (commonValues r)) answer)
 
 pub overlay-row-common-spec : {M : Type 1} → statement M

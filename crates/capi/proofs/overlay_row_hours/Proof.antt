@@ -18,7 +18,7 @@ hours-number-requires c κs = search needs
 
 returns : tie.Need-returns
 returns c =
-    let answer = c .before .before .row-hours .ensures in
+    let answer = c .before .before .row-hours .ensures .0 in
     (c .hours-number .ensures ∙ ap (λ (r : HoursAnswer). hoursValues r .number) answer, c .before .hours-cells .ensures ∙ ap (λ (r : HoursAnswer). hoursCells (hoursValues r)) answer)
 
 pub overlay-row-hours-spec : {M : Type 1} → statement M

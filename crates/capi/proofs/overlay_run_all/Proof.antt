@@ -26,7 +26,7 @@ returns : tie.Need-returns
 returns c =
     let k : tie.After-run-all = search needs in
     let run = k .run-all .ensures in
-    (c .run-number .ensures ∙ ap (λ (r : Run). runValues r .number) (run .0), (c .before .run-cells .ensures ∙ ap (λ (r : Run). runCells (runValues r)) (run .0), run .1))
+    (c .run-number .ensures ∙ ap (λ (r : Run). runValues r .number) (run .0), c .before .run-cells .ensures ∙ ap (λ (r : Run). runCells (runValues r)) (run .0), run .1 .1 .0, run .1 .1 .1)
 
 pub overlay-run-all-spec : {M : Type 1} → statement M
 overlay-run-all-spec =

@@ -1,8 +1,9 @@
 -- `capi::overlay_timed_page`: the timed page from the ticket in the cells, laid out.
 use borrow.Author.Needs.{needs}
 use mathlib.Core.Path.{ap, _∙_}
+use mathlib.Core.Option.{some}
 use Rattle.paging.specs.declared.Ticket.{Ticket}
-use Rattle.paging.specs.Calls.{timedPageCause, timedPageCall, timedPageTable, timedPageCounter}
+use Rattle.paging.specs.Calls.{pageCause, pageCall, pageTable, pageCounter}
 use Rattle.cells.specs.Cells.{shapeOf, pageCells, ticketAfter}
 use Rattle.capi.proofs.overlay_timed_page.Statement.{statement}
 use Rattle.capi.proofs.overlay_timed_page.Tie as tie
@@ -40,18 +41,12 @@ returns c =
     let s = shapeOf (a .k) (a .sizes .now) (a .margins .now) in
     let told = f .timed-page .ensures in
     let from = i .ticket-in .ensures in
-    let page = told .0 ∙ ap (λ (t : Ticket). timedPageCall s (a .cells .now) (a .hours .now) (a .order .now) t (a .counter .now) (a .budget) (a .table .now)) from in (
-      g .stop-number .ensures ∙ (told .1 .0 ∙ ap (λ (t : Ticket). timedPageCause s (a .cells .now) (a .hours .now) (a .order .now) t (a .counter .now)) from),
-      (
-        q .page-cells .ensures ∙ ap pageCells page,
-        (
-          w .ticket-after .ensures ∙ ap (ticketAfter (a .ticket .now)) page,
-          (
-            told .1 .1 .0 ∙ ap (λ (t : Ticket). timedPageCounter s (a .cells .now) (a .hours .now) (a .order .now) t (a .counter .now) (a .budget) (a .table .now)) from,
-            told .1 .1 .1 ∙ ap (λ (t : Ticket). timedPageTable s (a .cells .now) (a .hours .now) (a .order .now) t (a .counter .now) (a .budget) (a .table .now)) from,
-          ),
-        ),
-      ),
+    let page = told .0 ∙ ap (λ (t : Ticket). pageCall (some (a .hours .now)) s (a .cells .now) (a .order .now) t (a .counter .now) (a .budget) (a .table .now)) from in (
+      g .stop-number .ensures ∙ (told .1 .0 ∙ ap (λ (t : Ticket). pageCause (some (a .hours .now)) s (a .cells .now) (a .order .now) t (a .counter .now)) from),
+      q .page-cells .ensures ∙ ap pageCells page,
+      w .ticket-after .ensures ∙ ap (ticketAfter (a .ticket .now)) page,
+      told .1 .1 .0 ∙ ap (λ (t : Ticket). pageCounter (some (a .hours .now)) s (a .cells .now) (a .order .now) t (a .counter .now) (a .budget) (a .table .now)) from,
+      told .1 .1 .1 ∙ ap (λ (t : Ticket). pageTable (some (a .hours .now)) s (a .cells .now) (a .order .now) t (a .counter .now) (a .budget) (a .table .now)) from,
     )
 
 pub overlay-timed-page-spec : {M : Type 1} → statement M

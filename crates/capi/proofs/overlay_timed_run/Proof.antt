@@ -26,7 +26,7 @@ returns : tie.Need-returns
 returns c =
     let k : tie.After-timed-run = search needs in
     let run = k .timed-run .ensures in
-    (c .run-number .ensures ∙ ap (λ (r : Run). runValues r .number) (run .0), (c .before .run-cells .ensures ∙ ap (λ (r : Run). runCells (runValues r)) (run .0), run .1))
+    (c .run-number .ensures ∙ ap (λ (r : Run). runValues r .number) (run .0), c .before .run-cells .ensures ∙ ap (λ (r : Run). runCells (runValues r)) (run .0), run .1 .1 .0, run .1 .1 .1)
 
 pub overlay-timed-run-spec : {M : Type 1} → statement M
 overlay-timed-run-spec =

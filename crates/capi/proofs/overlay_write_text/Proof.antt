@@ -19,7 +19,7 @@ same-length c = search needs
 returns : tie.Need-returns
 returns c =
     let write = c .before .before .before .before .write .ensures in
-    (c .written-number .ensures ∙ write .1 .0, (c .before .written-length .ensures ∙ write .1 .1 .0, write .1 .1 .1))
+    (c .written-number .ensures ∙ write .1 .0, c .before .written-length .ensures ∙ write .1 .1 .0, write .1 .1 .1)
 
 pub overlay-write-text-spec : {M : Type 1} → statement M
 overlay-write-text-spec =

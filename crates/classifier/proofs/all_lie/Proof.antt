@@ -5,7 +5,8 @@ use mathlib.Core.Bool.{true}
 use Prim.Native.Nat.{_+_, _-_, _≤_}
 use native.Mathlib.Omega.{arith}
 use Rattle.plan.specs.Plan.{rectAt}
-use Rattle.crossings.specs.ClassCall.{lies, allLie}
+use Rattle.crossings.specs.ClassCall.{lies}
+use Rattle.crossings.specs.Ends.{allLie}
 use Rattle.lists.proofs.Tests.{below-more, below-not, below-end}
 use Rattle.classifier.proofs.all_lie.Statement.{statement}
 use Rattle.classifier.proofs.all_lie.Tie as tie

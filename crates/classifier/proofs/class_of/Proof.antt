@@ -5,11 +5,16 @@ use lib.IntN.{ℤ}
 use Rattle.plan.specs.Plan.{Typed, Sound, layersOf, sizesOf}
 use Rattle.plan.proofs.Growing.{part-long, part-framed}
 use Rattle.crossings.specs.Ends.{classTold}
-use Rattle.crossings.specs.ClassCall.{crossingCause}
+use Rattle.crossings.specs.declared.ClassAnswer.{ClassAnswer}
+use Rattle.crossings.specs.ClassCall.{crossingCause, classValues}
 use Rattle.crossings.proofs.Answers.{cause-sound, cause-three, class-refused, class-accepted}
 use borrow.Author.Needs.{needs}
 use Rattle.classifier.proofs.class_of.Statement.{statement}
 use Rattle.classifier.proofs.class_of.Tie as tie
+
+-- an answer, and its number and class
+with-values : {r a : ClassAnswer} → r ≡ a → (r ≡ a) × (classValues r ≡ classValues a)
+with-values e = (e, ap classValues e)
 
 typed : (c : tie.Start) → Typed (c .args .t1)
 typed c = record { sizes = search needs; margins = search needs }
@@ -21,7 +26,9 @@ crossing-cause-requires : tie.Need-crossing-cause-requires
 crossing-cause-requires c κs = search needs
 
 returns : tie.Need-returns
-returns c = let a = c .before .before .before .args in class-refused (a .t1) (a .cells .now) (a .places .now) _ (c .before .crossing-cause .ensures) (c .if1 .taken)
+returns c =
+    let a = c .before .before .before .args in
+    with-values (class-refused (a .t1) (a .cells .now) (a .places .now) _ (c .before .crossing-cause .ensures) (c .if1 .taken))
 
 sound : (c : tie.Else1) → Sound (c .before .before .before .args .t1) (c .before .before .before .args .cells .now)
 sound c = cause-sound _ _ (typed (c .before .before .before)) (passed c)
@@ -53,7 +60,7 @@ returns-2 c =
     let e : tie.Else1 = search needs in
     let g : tie.After-grow-plan = search needs in
     let a = e .before .before .before .args in
-    class-accepted (a .t1) (a .cells .now) (a .places .now) _ (passed e) (c .class-told .ensures ∙ ap (λ (l : List ℤ). classTold (layersOf (sizesOf (a .t1)) l) (a .places .now)) (g .grow-plan .ensures .is))
+    with-values (class-accepted (a .t1) (a .cells .now) (a .places .now) _ (passed e) (c .class-told .ensures ∙ ap (λ (l : List ℤ). classTold (layersOf (sizesOf (a .t1)) l) (a .places .now)) (g .grow-plan .ensures .is)))
 
 pub class-of-spec : {M : Type 1} → statement M
 class-of-spec =

@@ -1,8 +1,28 @@
 -- `codec::ticket_cells`: only the flag and the count are not the cells themselves.
+use mathlib.Core.Path.{_≡_, sym, ap, ap₂, _∙_}
+use mathlib.Core.List.{List, [], _∷_, _++_, append-assoc}
+use mathlib.Core.Bool.{cond}
+use Prim.Native.Nat.{ℕ, _/_, _%_}
+use lib.ListN.{getD}
+use mir.Val.{boolByte}
 use borrow.Author.Needs.{needs}
-use Rattle.cells.proofs.Cells.{made}
+use Rattle.lists.specs.Lists.{padded}
+use Rattle.lists.proofs.Tests.{as-number}
+use Rattle.paging.specs.declared.Ticket.{Ticket}
+use Rattle.cells.specs.Cells.{ticketCells}
+use Rattle.cells.proofs.Cells.{five-cells}
 use Rattle.codec.proofs.ticket_cells.Statement.{statement}
 use Rattle.codec.proofs.ticket_cells.Tie as tie
+
+-- a ticket's cells as they are made
+made : (t : Ticket) → let c = t .cursor in let p = c .chosen in
+    boolByte (c .ended) ∷ c .layer ∷ c .place ∷ c .filled ∷ getD p 0 0 ∷ getD p 1 0 ∷ getD p 2 0 ∷ getD p 3 0 ∷ getD p 4 0 ∷ c .next ∷ t .count % 4294967296 ∷ t .count / 4294967296 ∷ []
+    ≡ ticketCells t
+made t =
+    let c = t .cursor in
+    let last = t .count % 4294967296 ∷ t .count / 4294967296 ∷ [] in
+    ap₂ (λ (n : ℕ) (l : List ℕ). n ∷ c .layer ∷ c .place ∷ c .filled ∷ (l ++ (c .next ∷ last))) (as-number (c .ended)) (five-cells (c .chosen))
+    ∙ ap (λ (l : List ℕ). cond {A = ℕ} (c .ended) 1 0 ∷ c .layer ∷ c .place ∷ c .filled ∷ l) (sym (append-assoc (padded 5 (c .chosen)) (c .next ∷ []) last))
 
 cast-t5 : tie.Need-cast-t5
 cast-t5 c = search needs

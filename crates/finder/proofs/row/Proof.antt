@@ -1,11 +1,17 @@
 -- `finder::row`: the guard's layer and the area of what the cells name.
 use borrow.Author.Needs.{needs}
-use mathlib.Core.Path.{sym, _∙_}
+use mathlib.Core.Path.{_≡_, sym, ap, _∙_}
 use native.Mathlib.Omega.{arith}
 use Rattle.plan.specs.Plan.{Typed}
+use Rattle.rows.specs.declared.RowAnswer.{RowAnswer}
+use Rattle.rows.specs.RowCall.{rowValues}
 use Rattle.rows.proofs.Answers.{row-is, row-some, named-small}
 use Rattle.finder.proofs.row.Statement.{statement}
 use Rattle.finder.proofs.row.Tie as tie
+
+-- an answer, and so its values
+told : {r s : RowAnswer} → r ≡ s → (r ≡ s) × (rowValues r ≡ rowValues s)
+told e = (e, ap rowValues e)
 
 typed : (c : tie.Start) → Typed (c .args .shape)
 typed c = record { sizes = search needs; margins = search needs }
@@ -33,15 +39,15 @@ area-requires : tie.Need-area-requires
 area-requires c κs = search needs
 
 returns : tie.Need-returns
-returns c = row-is _ _ _ _ (sym (c .before .cause .given .1) ∙ c .before .before .before .plan-named .ensures)
+returns c = told (row-is _ _ _ _ (sym (c .before .cause .given .1) ∙ c .before .before .before .plan-named .ensures))
 
 returns-2 : tie.Need-returns-2
-returns-2 c = row-is _ _ _ _ (sym (c .enum-told .given .1) ∙ c .before .before .plan-named .ensures)
+returns-2 c = told (row-is _ _ _ _ (sym (c .enum-told .given .1) ∙ c .before .before .plan-named .ensures))
 
 returns-3 : tie.Need-returns-3
 returns-3 c =
     let k = c .before .before .before in
-    row-some _ _ _ _ (sym (k .g .given .1) ∙ k .before .before .plan-named .ensures) _ (c .area .ensures)
+    told (row-some _ _ _ _ (sym (k .g .given .1) ∙ k .before .before .plan-named .ensures) _ (c .area .ensures))
 
 pub row-spec : {M : Type 1} → statement M
 row-spec = tie.close (tie.spec plan-named-requires enum-known-cause enum-told enum-known-g add-t8 area-requires returns returns-2 returns-3)

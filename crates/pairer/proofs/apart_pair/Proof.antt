@@ -1,14 +1,20 @@
 -- `pairer::apart_pair`: a plan that the checks refuse, and one that they let through, grown.
 use borrow.Author.Needs.{needs}
-use mathlib.Core.Path.{sym, ap, _∙_}
+use mathlib.Core.Path.{_≡_, sym, ap, _∙_}
 use mathlib.Core.List.{List}
 use lib.IntN.{ℤ}
 use Rattle.plan.specs.Plan.{Typed, Sound, sizesOf}
 use Rattle.plan.proofs.Growing.{part-long, part-framed}
+use Rattle.pairs.specs.declared.PairAnswer.{PairAnswer}
+use Rattle.pairs.specs.PairCall.{pairValues}
 use Rattle.pairs.specs.Told.{told}
 use Rattle.pairs.proofs.Scanning.{pair-refused, pair-accepted}
 use Rattle.pairer.proofs.apart_pair.Statement.{statement}
 use Rattle.pairer.proofs.apart_pair.Tie as tie
+
+-- an answer, and so its values
+answered : {r s : PairAnswer} → r ≡ s → (r ≡ s) × (pairValues r ≡ pairValues s)
+answered e = (e, ap pairValues e)
 
 typed : (c : tie.Start) → Typed (c .args .t1)
 typed c = record { sizes = search needs; margins = search needs }
@@ -21,7 +27,7 @@ plan-cause-requires c κs = search needs
 
 returns : tie.Need-returns
 returns c =
-    let a = c .before .before .before .args in pair-refused (a .t1) (a .cells .now) (a .places .now) _ (c .before .plan-cause .ensures) (c .if1 .taken)
+    let a = c .before .before .before .args in answered (pair-refused (a .t1) (a .cells .now) (a .places .now) _ (c .before .plan-cause .ensures) (c .if1 .taken))
 
 slice-aggregate-grow-plan : tie.Need-slice-aggregate-grow-plan
 slice-aggregate-grow-plan c = search needs
@@ -49,7 +55,7 @@ returns-2 c =
     let g : tie.After-grow-plan = search needs in
     let e : tie.Else1 = search needs in
     let a = e .before .before .before .args in
-    pair-accepted (a .t1) (a .cells .now) (a .places .now) _ (sound e) (c .pair-told .ensures ∙ ap (λ (l : List ℤ). told (sizesOf (a .t1)) l (a .places .now)) (g .grow-plan .ensures .is))
+    answered (pair-accepted (a .t1) (a .cells .now) (a .places .now) _ (sound e) (c .pair-told .ensures ∙ ap (λ (l : List ℤ). told (sizesOf (a .t1)) l (a .places .now)) (g .grow-plan .ensures .is)))
 
 pub apart-pair-spec : {M : Type 1} → statement M
 apart-pair-spec =

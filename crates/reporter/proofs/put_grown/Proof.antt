@@ -8,8 +8,8 @@ use Rattle.totals.specs.declared.Total.{Total}
 use Rattle.plan.specs.declared.Shape.{Shape}
 use Rattle.plan.specs.Plan.{layersOf, sizesOf}
 use Rattle.plan.proofs.Growing.{part-long}
-use Rattle.paging.specs.Theorems.{rowsIn}
-use Rattle.paging.specs.TableRows.{TableRows}
+use Rattle.rows.specs.Tables.{rowsIn}
+use Rattle.rows.specs.TableRows.{TableRows}
 use Rattle.printing.specs.Lines.{rowLines, totalLine}
 use Rattle.printing.specs.Parts.{FitsAt}
 use Rattle.printing.proofs.Puts.{put-same}

@@ -4,7 +4,6 @@ use mathlib.Core.Path.{sym, _∙_}
 use Rattle.plan.specs.Plan.{Sound}
 use Rattle.plan.proofs.Growing.{drawn-framed, drawn-grown}
 use Rattle.sweep.proofs.Orders.{checked-plan}
-use Rattle.rounds.specs.Rounds.{request}
 use Rattle.rounder.proofs.Answers.{round-refused, by-order, parts}
 use Rattle.rounder.proofs.round.Statement.{statement}
 use Rattle.rounder.proofs.round.Tie as tie
@@ -21,12 +20,9 @@ refused-round-requires c κs = search needs
 
 returns : tie.Need-returns
 returns c =
-    let s : tie.Start = search needs in
     let p : tie.After-plan-cause = search needs in
     let t : tie.Then1 = search needs in
-    let a = s .args in
-    let q = (request (a .shape) (a .cells .now) (a .order .now) (a .m) (a .first) (a .budget) (a .tickets) (a .counters .now) (a .table .now)) in
-    parts (round-refused q _ (by-order q _ (checked-plan _ _ _ _ (p .plan-cause .ensures) (t .if1 .taken)) (t .if1 .taken)) (t .if1 .taken) _ (c .refused-round .ensures))
+    parts (round-refused _ _ (by-order _ _ (checked-plan _ _ _ _ (p .plan-cause .ensures) (t .if1 .taken)) (t .if1 .taken)) (t .if1 .taken) _ (c .refused-round .ensures))
 
 is-drawn-requires : tie.Need-is-drawn-requires
 is-drawn-requires c κs = search needs

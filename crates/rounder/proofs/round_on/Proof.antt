@@ -5,7 +5,8 @@ use mathlib.Core.Path.{_≡_, sym, _∙_}
 use mathlib.Core.Bool.{true}
 use native.Mathlib.Omega.{arith}
 use lib.ListN.{length}
-use Rattle.rounds.specs.Rounds.{request, fits}
+use Rattle.rounds.specs.Rounds.{fits}
+use Rattle.rounder.specs.Parts.{request}
 use Rattle.rounds.proofs.Causes.{Fitting, fits-yes}
 use Rattle.rounder.proofs.Answers.{round-refused, round-given, by-numbers, by-clients}
 use Rattle.rounder.proofs.round_on.Statement.{statement}
@@ -52,7 +53,7 @@ returns-2 c =
     let n : tie.After-clients-cause = search needs in
     let z : tie.Then2 = search needs in
     let a = s .args in
-    λ t plain k. let q = (request t plain (a .order .now) (a .m) (a .first) (a .budget) (a .tickets) (a .counters .now) (a .table .now)) in round-refused q _ (by-clients q (k .passed) (fit e) _ (n .clients-cause .ensures t plain k)) (z .if2 .taken) _ (c .refused-round2 .ensures)
+    λ t plain k. let q = (request t plain (a .order .now) (a .m) (a .first) (a .budget) (a .tickets) (a .counters .now) (a .table .now)) in round-refused q _ (by-clients q (k .passed) (fit e) _ (n .clients-cause .ensures t plain k)) (λ w. omega (arith, z .if2 .taken)) _ (c .refused-round2 .ensures)
 
 cast-serve-all : tie.Need-cast-serve-all
 cast-serve-all c = let e : tie.Else1 = search needs in omega (arith, fitting e .low)

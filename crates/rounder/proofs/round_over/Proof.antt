@@ -7,7 +7,7 @@ use native.Mathlib.Omega.{arith}
 use Rattle.plan.specs.Plan.{Typed}
 use Rattle.slots.proofs.Frames.{framing-over}
 use Rattle.pager.proofs.Calls.{ordered, no-hours, misordered, admitted}
-use Rattle.rounds.specs.Rounds.{request}
+use Rattle.rounder.specs.Parts.{request}
 use Rattle.rounder.proofs.Answers.{round-refused, by-order, opens}
 use Rattle.rounder.proofs.round_over.Statement.{statement}
 use Rattle.rounder.proofs.round_over.Tie as tie

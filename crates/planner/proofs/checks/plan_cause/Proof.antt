@@ -5,7 +5,8 @@ use mathlib.Core.Path.{_≡_, sym, ap, _∙_}
 use mathlib.Core.Bool.{true, false}
 use lib.ListN.{length}
 use Rattle.lists.specs.Lists.{sum}
-use Rattle.plan.proofs.Plan.{shapeCause, plan-shape, plan-cells, plan-range}
+use Rattle.plan.specs.Plan.{shapeCause}
+use Rattle.plan.proofs.Plan.{plan-shape, plan-cells, plan-range}
 use Rattle.planner.proofs.checks.plan_cause.Statement.{statement}
 use Rattle.planner.proofs.checks.plan_cause.Tie as tie
 

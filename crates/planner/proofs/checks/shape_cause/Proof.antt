@@ -5,8 +5,8 @@ use mathlib.Core.Path.{_≡_}
 use mathlib.Core.Bool.{Bool, true, false}
 use borrow.Author.Tests.{not-true, not-false}
 use Rattle.plan.specs.Causes.{unless}
-use Rattle.plan.specs.Plan.{allFit}
-use Rattle.plan.proofs.Plan.{shapeCause, shape-low, shape-high, shape-sizes, shape-margins}
+use Rattle.plan.specs.Plan.{allFit, shapeCause}
+use Rattle.plan.proofs.Plan.{shape-low, shape-high, shape-sizes, shape-margins}
 use Rattle.planner.proofs.checks.shape_cause.Statement.{statement}
 use Rattle.planner.proofs.checks.shape_cause.Tie as tie
 

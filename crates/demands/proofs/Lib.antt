@@ -1,0 +1,6 @@
+pub mod Lasts
+pub mod Chains
+pub mod Courses
+pub mod Lists
+pub mod Week
+pub mod Theorems
