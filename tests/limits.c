@@ -160,7 +160,7 @@ enum { CALLS = sizeof calls / sizeof *calls };
 
 /* A stack of our own, and how much of it each call has used: all below the caller's frame is filled with a byte, and the lowest that is another one
  * after the call was the deepest. */
-enum { STACK = 1 << 18, OWN = 256, FILL = 0xA5 };
+enum { STACK = 1 << 19, OWN = 256, FILL = 0xA5 };
 static _Alignas(4096) unsigned char stack[STACK];
 static size_t used[CALLS];
 static int failed;

@@ -20,6 +20,7 @@ use Rattle.ground.specs.Theorems.{Holds, UnionHolds, RowsUnion, TableUni
 use Rattle.ground.proofs.Slabs.{Rises, top, up-to, union-by-cells}
 use Rattle.ground.proofs.Union.{covers-is, is-covers, covered-is, is-covered, same-squares, union-whole, union-same, union-most, union-apart, union-least, union-bound}
 use Rattle.ground.proofs.Tables.{rows-ranged}
+use Rattle.ground.proofs.Layers.{covered-each}
 
 -- ---- the example, by its lines 0 to 3
 abbrev two : List Rect
@@ -92,4 +93,4 @@ module _ (ns : List ℕ) (cells : List ℤ) (f : Framed ns cells) where
   }
 
 pub table-unions : TableUnions
-table-unions = record { tables = rows-union }
+table-unions = record { tables = rows-union; layers = covered-each }

@@ -1,2 +1,3 @@
 pub mod Union
+pub mod Layers
 pub mod Theorems

@@ -3,7 +3,7 @@ use mathlib.Core.Path.{_≡_}
 use mathlib.Core.Bool.{true}
 use mathlib.Core.List.{List, [], _∷_, map, List·Memᴰ}
 use mathlib.Core.Logic.{_↔_}
-use Prim.Native.Nat.{ℕ, _≤_}
+use Prim.Native.Nat.{ℕ, _≤_, _<_}
 use lib.IntN.{ℤ, pos, negℤ, _+ℤ_}
 use lib.Signed.{_≤ℤ_}
 use Rattle.lists.specs.Lists.{All, Pairwise, sum}
@@ -64,3 +64,7 @@ pub record RowsUnion (ls : List Layer) (rows : List (List ℕ)) (rs : List Rect)
 pub record TableUnions : Type 0 where
   pub tables : (ns : List ℕ) (cells : List ℤ) → Framed ns cells → let ls = layersOf ns cells in
       (rows : List (List ℕ)) → All (λ row. List·Memᴰ row (tableOf ns cells)) rows → RowsUnion ls rows (grounds ls rows)
+  -- of all rows: a square lies in the common ground of one exactly where it lies in a rectangle of each layer. So the union of all rows' ground is the count of
+  -- the squares that every layer covers (`whole`: all squares are counted that `covered` has)
+  pub layers : (ns : List ℕ) (cells : List ℤ) → Framed ns cells → let ls = layersOf ns cells in
+      (x y : ℤ) → (covered (grounds ls (tableOf ns cells)) x y ≡ true) ↔ All (λ l. (p : ℕ) × (p < l .size) × Holds x y (l .rect p)) ls

@@ -88,9 +88,6 @@ module _ (m first : ℕ) (from : 1 ≤ first) (to : first ≤ m) where
             let k : suc (t - 1) ≡ t = omega arith in
             rw (lt-leb first t l) (rw z (late (t - 1) (omega arith) ∙ k))
 
-  pub turn-once : (i j : ℕ) → i < m → j < m → clientAt m first i ≡ clientAt m first j → i ≡ j
-  turn-once i j h k e = sym (turn-client i h) ∙ ap (turnOf m first) e ∙ turn-client j k
-
 -- ---- sums over all clients
 -- one more at the end, and two parts
 total-more : (g : ℕ → ℕ) (p n : ℕ) → sum (upto g p (suc n)) ≡ sum (upto g p n) + g (p + n)

@@ -41,7 +41,7 @@ use Rattle.rounds.specs.Shares.{clientAt, turnOf, leftBehind}
 use Rattle.rounds.specs.Shares as Shares
 use Rattle.rounds.specs.Rounds.{Request, ticketAt, counterAt, partSize, partAt, roundCause, probesOf, budgetAt, pageAt, countedAt, filledAt, answerAt, idlePage, roundCall, roundCounters, roundTable}
 use Rattle.rounds.specs.Theorems.{callWith, callOf, pageOf, partOf, rowsFor, turn, Follows, Turns, ClientHolds, RoundHolds, RoundRefused, serving, roomy, callsOf, ListHolds, RoundsHold}
-use Rattle.rounds.proofs.Shares.{after-last, after-next, client-from, client-to, turn-client, client-turn, turn-below, turn-once, share-offered, left-done, all-in-turn, total-parts}
+use Rattle.rounds.proofs.Shares.{after-last, after-next, client-from, client-to, turn-client, client-turn, turn-below, share-offered, left-done, all-in-turn, total-parts}
 use Rattle.rounds.proofs.Parts.{each-within, each-long, part-is, rest-is, cut-long, parts-within}
 use Rattle.rounds.proofs.Calls.{probes-few, table-long, counter-long}
 use Rattle.rounds.proofs.Causes.{Accepted, accepted-is, round-causes}
@@ -126,7 +126,6 @@ module _ (q : Request) (typed : Typed (q .shape)) (e : roundCause q ≡ 0) where
     start = refl;
     next = λ i. next-is (turn q i);
     all = λ t a b. (turnOf (q .clients) (q .first) t, turn-below (q .clients) (q .first) from to t a b, client-turn (q .clients) (q .first) from to t a b);
-    once = turn-once (q .clients) (q .first) from to;
     offers = λ i h. budget-at i h ∙ ap (λ (n : ℕ). n / (q .clients - i)) (omega (arith, spent-is i (omega arith)));
   }
 
@@ -177,7 +176,6 @@ module _ (q : Request) (typed : Typed (q .shape)) (e : roundCause q ≡ 0) where
         ap (λ (l : List ℕ). take 1 (drop (t - 1) l)) (counters-are ∙ sym (append-nil (each (countedAt q) 1 (q .clients)))) ∙ (rw z at p);
     part = part-filled t a b;
     cut = cut t;
-    inside = parts-within (q .shape .k) (q .clients) (length (q .table)) t b;
     offered = its-share t a b;
     share = share (page-left (callOf q t) typed passes .2);
     alone = alone;

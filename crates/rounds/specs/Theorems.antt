@@ -103,9 +103,8 @@ pub record Turns (q : Request) : Type 0 where
   -- "Tablets are served in turn order, 1 after m, from a given first one."
   pub start : turn q 0 ≡ q .first
   pub next : (i : ℕ) → Follows q (turn q i) (turn q (suc i))
-  -- so m turns serve each client, and just once
+  -- so m turns serve each client, and, as they are m, just once
   pub all : (t : ℕ) → 1 ≤ t → t ≤ q .clients → (i : ℕ) × (i < q .clients) × (turn q i ≡ t)
-  pub once : (i j : ℕ) → i < q .clients → j < q .clients → turn q i ≡ turn q j → i ≡ j
   -- "Each is offered the trials left divided by the tablets still to serve, rounded down, and makes one page call with that. Its unused trials stay in what is
   -- left."
   pub offers : (i : ℕ) → i < q .clients
@@ -122,7 +121,6 @@ pub record ClientHolds (q : Request) (t : ℕ) : Type 0 where
   pub counter : take 1 (drop (t - 1) (roundCounters q)) ≡ counted (callOf q t)
   pub part : partOf q t (roundTable q) ≡ after (callOf q t)
   pub cut : partAt q t ≡ partOf q t (q .table)
-  pub inside : t * cellsEach q ≤ length (q .table)
   -- "Each tablet performs at least B / m trials, rounded down, unless it ends or its part is full": each is offered as many
   pub offered : q .budget / q .clients ≤ budgetAt q t
   pub share : (pageOf q t .stop ≡ Ended) ⊎ ((pageOf q t .stop ≡ Full) ⊎ (q .budget / q .clients ≤ pageOf q t .probes))

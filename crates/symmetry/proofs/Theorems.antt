@@ -1,7 +1,6 @@
 -- The laws of layers in any order hold.
-use mathlib.Core.Path.{_≡_, sym, ap, _∙_}
-use Rattle.geometry.specs.declared.Rect.{Rect}
-use Rattle.geometry.specs.Rectangles.{common, meets, meeting}
+use mathlib.Core.Path.{sym, ap, _∙_}
+use Rattle.geometry.specs.Rectangles.{common}
 use Rattle.geometry.proofs.Rectangles.{common-comm, common-assoc, common-same}
 use Rattle.plan.specs.Plan.{Layer}
 use Rattle.symmetry.specs.Plans.{exchanging}
@@ -13,12 +12,8 @@ use Rattle.symmetry.proofs.Cutting.{cut-holds}
 use Rattle.symmetry.proofs.Runs.{runs-rearranged, runs-cut, runs-too}
 use Rattle.symmetry.proofs.Counted.{counted-here, counted-else}
 
-same-handed : (a b : Rect) → meeting a b ≡ meeting b a
-unfolding meets meeting
-same-handed a b = rw (common-comm a b)
-
 taking-ground : TakingGround
-taking-ground = record { commutative = common-comm; associative = common-assoc; same = common-same; again = λ a b. common-assoc a b b ∙ ap (common a) (common-same b); handed = same-handed }
+taking-ground = record { commutative = common-comm; associative = common-assoc; same = common-same; again = λ a b. common-assoc a b b ∙ ap (common a) (common-same b) }
 
 pub layers-in-any-order : LayersInAnyOrder
 layers-in-any-order = record {

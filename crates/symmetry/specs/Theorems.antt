@@ -8,7 +8,7 @@ use lib.ListN.{length, getD}
 use Rattle.lists.specs.Lists.{Distinct, Below, sum}
 use Rattle.totals.specs.Totals.{valueOf}
 use Rattle.geometry.specs.declared.Rect.{Rect}
-use Rattle.geometry.specs.Rectangles.{common, meeting}
+use Rattle.geometry.specs.Rectangles.{common}
 use Rattle.plan.specs.Plan.{Layer, layersOf, sizesOf, layers, Typed, Sound, grown}
 use Rattle.plan.specs.Spots.{layerAt}
 use Rattle.sweep.specs.Sweep.{sweepOrder}
@@ -132,12 +132,11 @@ module _ (p : Plan) (l : Lent) where
 
 -- ---- "Taking common ground is commutative, associative, and unchanged by the same rectangle again."
 pub record TakingGround : Type 0 where
+  -- so what the test of two rectangles hands back does not depend on which comes first (geometry, `CommonGround`)
   pub commutative : (a b : Rect) → common a b ≡ common b a
   pub associative : (a b c : Rect) → common (common a b) c ≡ common a (common b c)
   pub same : (a : Rect) → common a a ≡ a
   pub again : (a b : Rect) → common (common a b) b ≡ common a b
-  -- so what the test of two rectangles hands back does not depend on which comes first
-  pub handed : (a b : Rect) → meeting a b ≡ meeting b a
 
 pub record LayersInAnyOrder : Type 0 where
   -- all layers in any order, and the columns of a row likewise

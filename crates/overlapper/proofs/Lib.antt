@@ -1,0 +1,4 @@
+pub mod Ruling
+pub mod Steps
+pub mod Covering
+pub mod Sweeping
