@@ -65,7 +65,8 @@ ghost use Rattle.roundcells.specs.RoundCells.{ticketsIn, roundCells, ticketsAft
 ghost use Rattle.survey.specs.CoverCall.{coverCause, coverAnswer, coverValues, coverAfter};
 ghost use Rattle.text.specs.Reader.{readCause, readAnswer, cellsAfter};
 ghost use Rattle.text.specs.Writer.{writeCause, writeAnswer, lengthOf, bufferAfter};
-ghost use Rattle.cells.specs.Cells.{shapeOf, ticketCells, ticketIn, pageCells, ticketAfter, runCells, rowCells, commonCells, acrossIn, upwardIn, pairCells, hoursCells};
+ghost use Rattle.cells.specs.Cells.{shapeOf, ticketCells, ticketIn, pageCells, ticketAfter, runCells};
+ghost use Rattle.cells.specs.Cells.{rowCells, commonCells, acrossIn, upwardIn, pairCells, hoursCells};
 
 // The first of the causes 1 2 17 3 4 that applies to a plan.
 #[no_mangle]

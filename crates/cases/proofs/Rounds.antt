@@ -4,6 +4,7 @@ use Rattle.lists.specs.Lists.{same}
 use Rattle.totals.specs.Totals.{totalOf}
 use Rattle.geometry.specs.Rectangles.{maxZ, minZ, common, nonempty, meets, between, held, grownBy, areaOf}
 use Rattle.plan.specs.Plan.{rectAt, grown, fitsAt, planCause}
+use Rattle.windows.specs.HoursCall.{hoursCause}
 use Rattle.sweep.specs.Sweep.{before, sweepOrder, orderCause}
 use Rattle.join.specs.Join.{areaIn}
 use Rattle.join.specs.Table.{same-spot, belongs, tableOf}
@@ -15,5 +16,5 @@ use Rattle.rounds.specs.Rounds.{fits, roundCause, probesOf, roundCall, roundCou
 use Rattle.cases.specs.Rounds.{ThreeServed}
 
 pub three-served : ThreeServed
-unfolding totalOf maxZ minZ common nonempty meets between held areaOf rectAt grownBy grown fitsAt planCause before sweepOrder orderCause areaIn same-spot belongs tableOf walkOf same sameCursor resume current pageCause pageCall pageTable pageCounter leftBehind fits roundCause probesOf roundCall roundCounters roundTable
+unfolding totalOf maxZ minZ common nonempty meets between held areaOf rectAt grownBy grown fitsAt planCause before sweepOrder orderCause hoursCause areaIn same-spot belongs tableOf walkOf same sameCursor resume current pageCause pageCall pageTable pageCounter leftBehind fits roundCause probesOf roundCall roundCounters roundTable
 three-served = record { answer = refl; counters = refl; table = refl }

@@ -3,7 +3,7 @@
 use mathlib.Core.Path.{_≡_}
 use mathlib.Core.Bool.{false}
 use mathlib.Core.List.{List, [], _∷_, _++_, map}
-use mathlib.Core.Option.{none}
+use mathlib.Core.Option.{none, some}
 use Prim.Native.Nat.{ℕ, suc, _*_}
 use Prim.Native.Char.{code}
 use Prim.Native.String.{String}
@@ -144,11 +144,11 @@ Holds (Paged s cells ts) =
     let order = sweepOrder (grown s cells) in
     Turns s cells (freshCall s cells order (7 ∷ []) .ticket) (freshCounter s cells order (7 ∷ [])) ts
 Holds (Judged s cells t counter cause) = pageCause none s cells (sweepOrder (grown s cells)) t counter ≡ cause
-Holds (Windowed s cells hours cause) = hoursCause s cells hours ≡ cause
+Holds (Windowed s cells hours cause) = hoursCause (some hours) s cells ≡ cause
 Holds (Asked s cells hours row answer number from to) =
     (hoursCall s cells hours row ≡ answer) × (hoursValues answer ≡ record { number = number; from = from; to = to })
 Holds (Timed s cells hours rows probes) =
-    (hoursCause s cells hours ≡ 0) × (map (toldHours s cells hours) (timedTableOf (sizesOf s) (grown s cells) hours) ≡ rows)
+    (hoursCause (some hours) s cells ≡ 0) × (map (toldHours s cells hours) (timedTableOf (sizesOf s) (grown s cells) hours) ≡ rows)
     × (length (timedWalkOf (sizesOf s) (grown s cells) hours) ≡ probes)
 Holds (Rounded areaSum metres rest printed) =
     (totalOf areaSum ≡ record { metres = metres; rest = rest }) × (squareMetres (hundredths (valueOf (totalOf areaSum))) ≡ printed)
@@ -472,12 +472,14 @@ cases =
     ∷ Listed (margined 0 10 0 2 1 1 0) (box 0 0 20 5 (box 10 0 12 5 [])) (row 1 (0 ∷ 0 ∷ []) 100 G ∷ []) 2
     -- ours: several rows of one guard in three layers, in their order
     ∷ Listed (shape 3 2 1 2) three
-    (row 2 (0 ∷ 0 ∷ 0 ∷ []) 50 G ∷ row 2 (0 ∷ 0 ∷ 1 ∷ []) 30 G ∷ row 2 (1 ∷ 0 ∷ 0 ∷ []) 45 G ∷ row 2 (1 ∷ 0 ∷ 1 ∷ []) 27 G ∷ []) 16
+    (row 2 (0 ∷ 0 ∷ 0 ∷ []) 50 G ∷ row 2 (0 ∷ 0 ∷ 1 ∷ []) 30 G
+    ∷ row 2 (1 ∷ 0 ∷ 0 ∷ []) 45 G ∷ row 2 (1 ∷ 0 ∷ 1 ∷ []) 27 G ∷ []) 16
     -- ours: a page of the same plan that stops with one slot filled, 15 of its 16 trials done: the ticket names the last
     ∷ Paged (shape 3 2 1 2) three
     (turn 15 (7 ∷ 7 ∷ ten 7 7) Spent 3 15 0 125 (0 ∷ 0 ∷ 0 ∷ 0 ∷ 0 ∷ 1 ∷ 1 ∷ 0 ∷ 0 ∷ 7 ∷ 7 ∷ 7 ∷ [])
     (counting (record { ended = false; layer = 2; place = 0; filled = 1; chosen = 1 ∷ 0 ∷ 0 ∷ 0 ∷ 0 ∷ []; next = 1 }) 15) ∷ [])
-    -- ours, of Q-5: the fresh ticket of D again, and an Ended, after more trials; a record of no cell and of two; a ticket that check 6 refuses first; 2^57 − 1
+    -- ours, of Q-5: the fresh ticket of D again, and an Ended, after more trials; a record of no cell and of two; a ticket that check 6 refuses
+    -- first; 2^57 − 1
     -- and 2^57
     ∷ Judged d dCells (counting (first 1 0 0) 0) (0 ∷ []) 0
     ∷ Judged d dCells (counting (first 1 0 0) 0) (2 ∷ []) 18

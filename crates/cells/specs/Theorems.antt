@@ -21,7 +21,8 @@ use Rattle.paging.specs.Theorems.{Call, overlayAt, cause, answer, Good}
 use Rattle.demands.specs.Theorems.{ticketsOf, counterAfter, Each, PagingHolds, TicketsHold}
 use Rattle.survey.specs.declared.Strip.the-variants.{Free, From, To, Between}
 use Rattle.survey.specs.Theorems.{SoundStops}
-use Rattle.cells.specs.Cells.{shapeOf, ticketCells, ticketIn, stopCode, pageCells, ticketAfter, runCells, rowCells, commonCells, stripIn, acrossIn, upwardIn, pairCells, hoursCells}
+use Rattle.cells.specs.Cells.{shapeOf, ticketCells, ticketIn, stopCode, pageCells, ticketAfter, runCells}
+use Rattle.cells.specs.Cells.{rowCells, commonCells, stripIn, acrossIn, upwardIn, pairCells, hoursCells}
 
 -- a list of exported page calls in one run, timed or not, by the calls that they hand on: an accepted one brings, in its ticket's cells, what the fresh call
 -- or an accepted one before it left there (`left`), and the counter as the last of them left it. A refused call may bring anything
@@ -33,10 +34,18 @@ pub record TicketsInCells : Type 0 where
   -- 01: "the guard's layer and place, how many slots are filled .., the chosen places in five cells .., first slot first, and the place to try", behind a flag
   -- for Ended; then the count, as a low and a high half: so a ticket is written and read
   pub ticket : (ended : Bool) (layer place filled first second third fourth fifth next low high : ℕ) → low < 4294967296
-      → let l : List ℕ = cond ended 1 0 ∷ layer ∷ place ∷ filled ∷ first ∷ second ∷ third ∷ fourth ∷ fifth ∷ next ∷ low ∷ high ∷ [] in
+      → let l : List ℕ = cond ended 1 0 ∷ layer ∷ place ∷ filled
+      ∷ first ∷ second ∷ third ∷ fourth ∷ fifth ∷ next ∷ low ∷ high ∷ [] in
       let t : Ticket = record {
         count = low + high * 4294967296;
-        cursor = record { ended = ended; layer = layer; place = place; filled = filled; chosen = first ∷ second ∷ third ∷ fourth ∷ fifth ∷ []; next = next };
+        cursor = record {
+          ended = ended;
+          layer = layer;
+          place = place;
+          filled = filled;
+          chosen = first ∷ second ∷ third ∷ fourth ∷ fifth ∷ [];
+          next = next;
+        };
       } in
       (ticketCells t ≡ l) × (ticketIn l ≡ t)
   -- cells with a flag above 1 are no good ticket: where no earlier cause applies, 6 refuses them (paging, `page-causes`)

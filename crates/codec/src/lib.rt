@@ -27,7 +27,8 @@ ghost use Rattle.windows.specs.HoursCall.{hoursValues};
 ghost use Rattle.paging.specs.Calls.{stopNumber, runValues};
 ghost use Rattle.text.specs.Writer.{numberOf, lengthOf};
 ghost use Rattle.survey.specs.CoverCall.{coverValues};
-ghost use Rattle.cells.specs.Cells.{ticketCells, cursorIn, ticketIn, stopCode, pageCells, ticketAfter, runCells, rowCells, commonCells, stripIn, pairCells, hoursCells};
+ghost use Rattle.cells.specs.Cells.{ticketCells, cursorIn, ticketIn, stopCode, pageCells, ticketAfter};
+ghost use Rattle.cells.specs.Cells.{runCells, rowCells, commonCells, stripIn, pairCells, hoursCells};
 
 // The number of a writer's answer.
 pub fn written_number(writing: Writing) -> u32

@@ -75,7 +75,8 @@ pub record Crossings : Type 0 where
   -- a rectangle covers exactly the points that lie in it
   pub covers : (r : Rect) (x y : ℤ) → (covers r x y ≡ true) ↔ In x y r
   -- "fewer than three layers, 15", then 16, "both after 4, in that order"
-  pub causes : (s : Shape) (cells : List ℤ) → Typed s → PlanChecks s cells (Check 15 (3 ≤ s .k) (Check 16 (Segments s cells) Passed)) (crossingCause s cells)
+  pub causes : (s : Shape) (cells : List ℤ) → Typed s
+      → PlanChecks s cells (Check 15 (3 ≤ s .k) (Check 16 (Segments s cells) Passed)) (crossingCause s cells)
   pub refused : (s : Shape) (cells : List ℤ) (row : List ℕ) (n : ℕ) → crossingCause s cells ≡ suc n
       → classCall s cells row ≡ Refused (suc n)
   pub classes : (s : Shape) (cells : List ℤ) → Typed s → crossingCause s cells ≡ 0

@@ -31,7 +31,7 @@ use Rattle.paging.specs.Cursors.{dueCursor}
 use Rattle.paging.specs.Calls.{freshCause, freshCall, freshCounter}
 use Rattle.paging.specs.Theorems.{Call, cause}
 use Rattle.paging.proofs.Overlays.{Lawful, laws-of}
-use Rattle.paging.proofs.Causes.{plan-past, first-plan, first-passes, sound-of}
+use Rattle.paging.proofs.Causes.{plan-past, first-plan, first-passes, sound-ordered}
 use Rattle.paging.proofs.Calls.{Serves}
 use Rattle.paging.proofs.Serving.{serves-own, serves-none, accepted-first, accepted-counter}
 use Rattle.paging.proofs.Runs.{runs-hold}
@@ -81,7 +81,7 @@ module _ (windows : Option (List ℕ)) (s : Shape) (cells : List ℤ) where
     left = freshCounter s cells order counter
 
     run-sound : Sound s cells
-    run-sound = sound-of none s cells order typed (fresh-passed s cells order counter f .0)
+    run-sound = sound-ordered s cells order typed (fresh-passed s cells order counter f .0)
 
     run-laws : Lawful ours
     run-laws = laws-of windows s cells run-sound

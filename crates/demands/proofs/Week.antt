@@ -20,6 +20,7 @@ use Rattle.search.specs.Names.{oldProbe}
 use Rattle.search.proofs.Beside.{oldRow, old-page}
 use Rattle.rows.specs.Tables.{fill}
 use Rattle.walk.specs.Walk.{placesOf}
+use Rattle.windows.specs.HoursCall.{hoursCause}
 use Rattle.windows.specs.Theorems.{Stated}
 use Rattle.windows.proofs.Theorems.{hours-passed}
 use Rattle.timed.specs.Theorems.{WholeWeek}
@@ -31,8 +32,8 @@ use Rattle.paging.specs.declared.Run.the-variants as Run
 use Rattle.paging.specs.Overlays.{Overlay, overlay, timedOverlay}
 use Rattle.paging.specs.Cursors.{cursorOf, dueCursor, endedCursor, sameCursor, findIn, resume}
 use Rattle.paging.specs.Pages.{paged, pageOf, areaSum}
-use Rattle.paging.specs.Calls.{current, groundOnce, firstCause, pageCause, pageCall, pageTable, pageCounter, runCause, runCall, runTable}
-use Rattle.paging.specs.Inner.{pageCauseOn, pageCallOn, pageCounterOn, pageTableOn, runCauseOn, runCallOn, runTableOn}
+use Rattle.paging.specs.Calls.{current, groundOnce, pageCause, pageCall, pageTable, pageCounter, runCause, runCall, runTable}
+use Rattle.paging.specs.Inner.{causeBefore, pageCauseOn, pageCallOn, pageCounterOn, pageTableOn, runCauseOn, runCallOn, runTableOn}
 
 is-some : {A B : Type 0} (f : A → B) (o : Option A) → isSome (Option·map f o) ≡ isSome o
 is-some f none = refl
@@ -146,34 +147,39 @@ module _ (s : Shape) (cells : List ℤ) (hours : List ℕ) (sound : Sound s cell
       let h = timed-walks .walks (sizesOf s) (grown s cells) hours (framed s cells sound .1) in
       ap₂ (λ (w : List (Probe Rect)) (l : List (List ℕ)). record { sizes = sizesOf s; walk = w; table = l; area = areaIn (layers s cells) }) (h .week week .0) (h .week week .1)
 
-  -- 24 does not apply
-  week-first : firstCause (some hours) s cells order ≡ firstCause none s cells order
-  week-first = rw (hours-passed s cells hours .1 (sound .passed, stated))
+  -- none of the plan's causes applies
+  week-plan : hoursCause none s cells ≡ 0
+  unfolding hoursCause
+  week-plan = sound .passed
+
+  -- and 24 does not
+  week-first : causeBefore (some hours) s cells order ≡ causeBefore none s cells order
+  week-first = rw (hours-passed s cells hours .1 (sound .passed, stated), week-plan)
 
   module _ (t : Ticket) (counter : List ℕ) (budget : ℕ) (table : List ℕ) where
     pub week-call : pageCall (some hours) s cells order t counter budget table ≡ pageCall none s cells order t counter budget table
     unfolding pageCause pageCall
     week-call =
-        call-same (timedOverlay s cells hours) t budget table (firstCause (some hours) s cells order) counter
+        call-same (timedOverlay s cells hours) t budget table (causeBefore (some hours) s cells order) counter
         ∙ ap₂ (λ (v : Overlay Rect) (first : ℕ). pageCallOn v (pageCauseOn v first t counter) t budget table) week-old week-first
 
     pub week-table : pageTable (some hours) s cells order t counter budget table ≡ pageTable none s cells order t counter budget table
     unfolding pageCause pageTable
     week-table =
-        table-same (timedOverlay s cells hours) t budget table (firstCause (some hours) s cells order) counter
+        table-same (timedOverlay s cells hours) t budget table (causeBefore (some hours) s cells order) counter
         ∙ ap₂ (λ (v : Overlay Rect) (first : ℕ). pageTableOn v (pageCauseOn v first t counter) t budget table) week-old week-first
 
     pub week-counter : pageCounter (some hours) s cells order t counter budget table ≡ pageCounter none s cells order t counter budget table
     unfolding pageCause pageCounter
     week-counter =
-        counter-same (timedOverlay s cells hours) t budget table (firstCause (some hours) s cells order) counter
+        counter-same (timedOverlay s cells hours) t budget table (causeBefore (some hours) s cells order) counter
         ∙ ap₂ (λ (v : Overlay Rect) (first : ℕ). pageCounterOn v (pageCauseOn v first t counter) t counter budget table) week-old week-first
 
   module _ (table : List ℕ) (work : ℕ) where
     pub week-run : runCall (some hours) s cells order table work ≡ runCall none s cells order table work
     unfolding runCause runCall
     week-run =
-        run-same (timedOverlay s cells hours) (runCauseOn (timedOverlay s cells hours) (firstCause (some hours) s cells order) table work) (layers s cells)
+        run-same (timedOverlay s cells hours) (runCauseOn (timedOverlay s cells hours) (causeBefore (some hours) s cells order) table work) (layers s cells)
         ∙ ap₂ (λ (v : Overlay Rect) (first : ℕ). runCallOn v (runCauseOn v first table work) (layers s cells)) week-old week-first
 
     pub week-rows : runTable (some hours) s cells order table work ≡ runTable none s cells order table work

@@ -31,7 +31,8 @@ pub record ExactValues : Type 0 where
   -- all floats but nan and the infinities have a value
   pub values : (x : Float) → Finite x ↔ ((x ≡ nan → ⊥) × ((s : Bool) → x ≡ inf s → ⊥))
   -- that of a whole number is the number
-  pub whole : (n : ℕ) → (exact (pos n) ≡ fin false n (pos 0)) × (exact (negsuc n) ≡ fin true (suc n) (pos 0)) × (up (pos 0) ≡ 1) × (down (pos 0) ≡ 1)
+  pub whole : (n : ℕ)
+      → (exact (pos n) ≡ fin false n (pos 0)) × (exact (negsuc n) ≡ fin true (suc n) (pos 0)) × (up (pos 0) ≡ 1) × (down (pos 0) ≡ 1)
   -- the order of finite floats is that of their values, m times 2 ^ e and n times 2 ^ f, below 0 where s and t are true; a and b are these times both lower
   -- numbers (specs/Values.antt)
   pub order : (s t : Bool) (m n : ℕ) (e f : ℤ) → let a = m * up e * down f in let b = n * up f * down e in

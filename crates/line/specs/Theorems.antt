@@ -18,7 +18,8 @@ pub data Starts (rest : List ℕ) : Line → List ℕ → Type 0 where
   -- "PLAN, k": P L A N
   plan : {a : List ℕ} {k : ℤ} → Spells a k → Starts rest (Plan k) (80 ∷ 76 ∷ 65 ∷ 78 ∷ 9 ∷ (a ++ 10 ∷ rest))
   -- "LAYER, n_j", and 02, Q-4: a margin "written as a second number on its LAYER line": L A Y E R
-  layer : {a b : List ℕ} {n m : ℤ} → Spells a n → Spells b m → Starts rest (Layer n m) (76 ∷ 65 ∷ 89 ∷ 69 ∷ 82 ∷ 9 ∷ (a ++ 9 ∷ (b ++ 10 ∷ rest)))
+  layer : {a b : List ℕ} {n m : ℤ} → Spells a n → Spells b m
+      → Starts rest (Layer n m) (76 ∷ 65 ∷ 89 ∷ 69 ∷ 82 ∷ 9 ∷ (a ++ 9 ∷ (b ++ 10 ∷ rest)))
   -- "RECT, left, bottom, right, top": R E C T
   rect : {a b c d : List ℕ} {r : Rect} → Spells a (r .left) → Spells b (r .bottom) → Spells c (r .right) → Spells d (r .top)
       → Starts rest (Rectangle r) (82 ∷ 69 ∷ 67 ∷ 84 ∷ 9 ∷ (a ++ 9 ∷ (b ++ 9 ∷ (c ++ 9 ∷ (d ++ 10 ∷ rest)))))

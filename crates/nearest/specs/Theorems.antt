@@ -62,4 +62,5 @@ pub record NearestHolds : Type 0 where
   pub told : (s : Shape) (cells : List ℤ) (a : Rect) → NearestTold s cells a
   -- as cells, three for each layer: found (0 or 1), place, gap
   pub long : (r : NearestAnswer) → length (nearCells r) ≡ 18
-  pub cells : (r : NearestAnswer) (j : ℕ) → j < 6 → let e = entry r j in take 3 (drop (3 * j) (nearCells r)) ≡ cond (e .found) 1 0 ∷ e .place ∷ e .gap ∷ []
+  pub cells : (r : NearestAnswer) (j : ℕ) → j < 6 → let e = entry r j in
+      take 3 (drop (3 * j) (nearCells r)) ≡ cond (e .found) 1 0 ∷ e .place ∷ e .gap ∷ []

@@ -76,7 +76,8 @@ pub fn fetch_page(
     budget: u32,
     table: &mut [u32],
 ) -> Page
-    ensures answer { λ r. ⌜ r ≡ pageCall none shape (now (cells .entry)) (now (order .entry)) ticket (now (counter .entry)) budget (now (table .entry)) ⌝ }
+    ensures answer { λ r. ⌜ r
+        ≡ pageCall none shape (now (cells .entry)) (now (order .entry)) ticket (now (counter .entry)) budget (now (table .entry)) ⌝ }
     ensures number { λ r. ⌜ stopNumber (r .stop) ≡ pageCause none shape (now (cells .entry)) (now (order .entry)) ticket (now (counter .entry)) ⌝ }
     ensures counter { λ _. ⌜ now (counter .exit)
         ≡ pageCounter none shape (now (cells .entry)) (now (order .entry)) ticket (now (counter .entry)) budget (now (table .entry)) ⌝ }
@@ -117,9 +118,11 @@ pub fn timed_page(
     ensures number { λ r. ⌜ stopNumber (r .stop)
         ≡ pageCause (some (now (hours .entry))) shape (now (cells .entry)) (now (order .entry)) ticket (now (counter .entry)) ⌝ }
     ensures counter { λ _. ⌜ now (counter .exit)
-        ≡ pageCounter (some (now (hours .entry))) shape (now (cells .entry)) (now (order .entry)) ticket (now (counter .entry)) budget (now (table .entry)) ⌝ }
+        ≡ pageCounter (some (now (hours .entry))) shape (now (cells .entry)) (now (order .entry))
+        ticket (now (counter .entry)) budget (now (table .entry)) ⌝ }
     ensures table { λ _. ⌜ now (table .exit)
-        ≡ pageTable (some (now (hours .entry))) shape (now (cells .entry)) (now (order .entry)) ticket (now (counter .entry)) budget (now (table .entry)) ⌝ }
+        ≡ pageTable (some (now (hours .entry))) shape (now (cells .entry)) (now (order .entry))
+        ticket (now (counter .entry)) budget (now (table .entry)) ⌝ }
 {
     let cause = hours_cause(shape, cells, hours);
     if cause != 0 {

@@ -39,8 +39,8 @@ use Rattle.search.specs.declared.Stop.the-variants.{Refused}
 use Rattle.paging.specs.Overlays.{Overlay, overlayOf}
 use Rattle.paging.specs.Cursors.{resume}
 use Rattle.paging.specs.Pages.{room, paged}
-use Rattle.paging.specs.Calls.{oneCell, current, freshCause, freshCall, freshCounter, stopNumber, refusedPage, firstCause, pageCause, pageCall, pageTable, pageCounter, runCause, runCall, runTable}
-use Rattle.paging.specs.Inner.{pageCauseOn, runCauseOn}
+use Rattle.paging.specs.Calls.{oneCell, current, freshCause, freshCall, freshCounter, stopNumber, refusedPage, pageCause, pageCall, pageTable, pageCounter, runCause, runCall, runTable}
+use Rattle.paging.specs.Inner.{causeBefore, pageCauseOn, runCauseOn}
 use Rattle.paging.specs.Theorems.{Call, overlayAt, cause, answer, after, counted, takes, noTrial, Good, Current, Hours, OrderChecks}
 use Rattle.paging.proofs.Overlays.{of-plan, of-timed}
 use Rattle.paging.proofs.Named.{resumes}
@@ -71,39 +71,42 @@ module _ (s : Shape) (cells : List ℤ) where
     abbrev Ordered : Type 0
     Ordered = order ≡ sweepOrder (grown s cells)
 
-    pub first-checks : (windows : Option (List ℕ)) → OrderChecks windows s cells order Passed (firstCause windows s cells order)
-    unfolding orderCause
+    pub first-checks : (windows : Option (List ℕ)) → OrderChecks windows s cells order Passed (causeBefore windows s cells order)
+    unfolding hoursCause
     first-checks none = plan-then s cells Passed _ (planCause s cells) _ (λ e. passes tt (check-last 5 _ (same-tells order _) e)) (plan-checks s cells)
     first-checks (some hours) =
-        plan-then s cells (Check 24 (Stated s hours) Passed) _ (hoursCause s cells hours) _ (check-then 24 _ _ (omega arith) behind) (Windows.hours .causes s cells hours)
-      where
-        -- 5 is asked where 24 does not apply, and so none of the plan's
-        behind : hoursCause s cells hours ≡ 0 → Check 5 Ordered Passed (hoursCause s cells hours orElse orderCause s cells order)
-        behind e = rw e (plan-past {N = Check 5 Ordered Passed} (Windows.hours-passed s cells hours .0 e .0) (sweep-holding .calls s cells order .checked))
+        let cause = hoursCause (some hours) s cells in
+        plan-then s cells (Check 24 (Stated s hours) Passed) _ cause _ (check-then 24 cause _ (omega arith) (check-last 5 cause (same-tells order _)))
+        (Windows.hours .causes s cells hours)
 
     -- more behind them
     pub first-then : (windows : Option (List ℕ)) (N M : ℕ → Type 0) (a b : ℕ) → (N a → M (a orElse b)) → OrderChecks windows s cells order N a → OrderChecks windows s cells order M (a orElse b)
     first-then windows N M a b f = plan-then s cells (Check 24 (Hours windows s) (Check 5 Ordered N)) _ a b (check-then 24 a b (omega arith) (check-then 5 a b (omega arith) f))
 
     -- where all hold, no cause applies
-    pub first-passes : (windows : Option (List ℕ)) → planCause s cells ≡ 0 → Hours windows s → Ordered → firstCause windows s cells order ≡ 0
+    pub first-passes : (windows : Option (List ℕ)) → planCause s cells ≡ 0 → Hours windows s → Ordered → causeBefore windows s cells order ≡ 0
     first-passes windows p h e = check-past e (check-past h (plan-past {N = Check 24 (Hours windows s) (Check 5 Ordered Passed)} p (first-checks windows)))
 
     -- and where none applies, all hold
-    pub first-held : (windows : Option (List ℕ)) (N : ℕ → Type 0) {a : ℕ} → a ≡ 0 → OrderChecks windows s cells order N a → (firstCause windows s cells order ≡ 0) × N a
+    pub first-held : (windows : Option (List ℕ)) (N : ℕ → Type 0) {a : ℕ} → a ≡ 0 → OrderChecks windows s cells order N a → (causeBefore windows s cells order ≡ 0) × N a
     first-held windows N e c =
         let p = plan-held {N = Check 24 (Hours windows s) (Check 5 Ordered N)} e c in
         let h = check-held 24 (omega arith) e (p .1) in
         let o = check-held 5 (omega arith) e (h .1) in
         (first-passes windows (p .0) (h .0) (o .0), o .1)
 
+-- without windows they are those of plan and order
+before-none : (s : Shape) (cells : List ℤ) (order : List ℕ) → causeBefore none s cells order ≡ orderCause s cells order
+unfolding orderCause hoursCause
+before-none s cells order = refl
+
 -- where none applies, none of the plan's does
-pub first-plan : (windows : Option (List ℕ)) (s : Shape) (cells : List ℤ) (order : List ℕ) → firstCause windows s cells order ≡ 0 → planCause s cells ≡ 0
+pub first-plan : (windows : Option (List ℕ)) (s : Shape) (cells : List ℤ) (order : List ℕ) → causeBefore windows s cells order ≡ 0 → planCause s cells ≡ 0
 first-plan windows s cells order e = plan-held s cells {N = Check 24 (Hours windows s) (Check 5 (order ≡ sweepOrder (grown s cells)) Passed)} e (first-checks s cells order windows) .0
 
 -- no number but 1 to 5, 17 and 24
 first-not : (windows : Option (List ℕ)) (s : Shape) (cells : List ℤ) (order : List ℕ) (n : ℕ) → 5 < n → (n ≡ 17 → ⊥) → (n ≡ 24 → ⊥)
-    → firstCause windows s cells order ≡ n → ⊥
+    → causeBefore windows s cells order ≡ n → ⊥
 first-not windows s cells order n h x y e =
     check-not 1 n e (λ q. omega arith)
     (check-not 2 n e (λ q. omega arith)
@@ -115,8 +118,12 @@ first-not windows s cells order n h x y e =
     (first-checks s cells order windows)
 
 -- a plan that is let through
-pub sound-of : (windows : Option (List ℕ)) (s : Shape) (cells : List ℤ) (order : List ℕ) → Typed s → firstCause windows s cells order ≡ 0 → Sound s cells
+pub sound-of : (windows : Option (List ℕ)) (s : Shape) (cells : List ℤ) (order : List ℕ) → Typed s → causeBefore windows s cells order ≡ 0 → Sound s cells
 sound-of windows s cells order t e = record { typed = t; passed = first-plan windows s cells order e }
+
+-- ... by its order
+pub sound-ordered : (s : Shape) (cells : List ℤ) (order : List ℕ) → Typed s → orderCause s cells order ≡ 0 → Sound s cells
+sound-ordered s cells order t e = sound-of none s cells order t (before-none s cells order ∙ e)
 
 -- a cursor resumes something exactly where it is good
 good-resumes : (windows : Option (List ℕ)) (s : Shape) (cells : List ℤ) → Sound s cells → (c : Cursor)
@@ -129,13 +136,13 @@ one-tells : (counter : List ℕ) → Tells (length counter ≡ 1) (oneCell count
 one-tells counter = tells (oneCell counter) (eqb-true (length counter) 1) (eq-eqb (length counter) 1)
 
 pub fresh-checks : (s : Shape) (cells : List ℤ) (order counter : List ℕ) → OrderChecks none s cells order (Check 18 (length counter ≡ 1) Passed) (freshCause s cells order counter)
-unfolding freshCause
+unfolding freshCause orderCause hoursCause
 fresh-checks s cells order counter =
     first-then s cells order none Passed (Check 18 (length counter ≡ 1) Passed) _ _ (check-last 18 _ (one-tells counter)) (first-checks s cells order none)
 
 module _ (windows : Option (List ℕ)) (s : Shape) (cells : List ℤ) (order : List ℕ) (t : Ticket) (counter : List ℕ) where
   -- 6 and then 18, by what their tests tell
-  pub page-chain : (G H : Type 0) → (firstCause windows s cells order ≡ 0 → Tells G (isSome (resume (overlayOf windows s cells) (t .cursor)))) → Tells H (current (t .count) counter)
+  pub page-chain : (G H : Type 0) → (causeBefore windows s cells order ≡ 0 → Tells G (isSome (resume (overlayOf windows s cells) (t .cursor)))) → Tells H (current (t .count) counter)
       → OrderChecks windows s cells order (Check 6 G (Check 18 H Passed)) (pageCause windows s cells order t counter)
   unfolding pageCause
   page-chain G H good now =
@@ -143,7 +150,7 @@ module _ (windows : Option (List ℕ)) (s : Shape) (cells : List ℤ) (order : L
       (first-then s cells order windows Passed (Check 6 G Passed) first _ (λ e. check-last 6 first (good e) e) (first-checks s cells order windows))
     where
       first : ℕ
-      first = firstCause windows s cells order
+      first = causeBefore windows s cells order
 
       named : ℕ
       named = first orElse unless (isSome (resume (overlayOf windows s cells) (t .cursor))) 6
@@ -157,7 +164,7 @@ module _ (windows : Option (List ℕ)) (s : Shape) (cells : List ℤ) (order tab
   run-checks =
       first-then s cells order windows (Check 7 (n ≤ m) Passed) (Check 7 (n ≤ m) (Check 19 (2 * n ≤ work) Passed)) roomy _
       (check-then 7 roomy _ (omega arith) (check-last 19 roomy (le-tells (2 * n) work)))
-      (first-then s cells order windows Passed (Check 7 (n ≤ m) Passed) (firstCause windows s cells order) _ (check-last 7 _ (le-tells n m)) (first-checks s cells order windows))
+      (first-then s cells order windows Passed (Check 7 (n ≤ m) Passed) (causeBefore windows s cells order) _ (check-last 7 _ (le-tells n m)) (first-checks s cells order windows))
     where
       n : ℕ
       n = length (over .table)
@@ -166,11 +173,11 @@ module _ (windows : Option (List ℕ)) (s : Shape) (cells : List ℤ) (order tab
       m = takes over table
 
       roomy : ℕ
-      roomy = firstCause windows s cells order orElse unless (leb n m) 7
+      roomy = causeBefore windows s cells order orElse unless (leb n m) 7
 
 -- the cause of the checks before a page call's own
 abbrev pub firstOf : Call → ℕ
-firstOf x = firstCause (x .windows) (x .shape) (x .cells) (x .order)
+firstOf x = causeBefore (x .windows) (x .shape) (x .cells) (x .order)
 
 -- what an accepted call passes
 pub page-passed : (x : Call) → cause x ≡ 0 → (firstOf x ≡ 0) × (isSome (resume (overlayAt x) (x .ticket .cursor)) ≡ true) × (current (x .ticket .count) (x .counter) ≡ true)
@@ -262,11 +269,11 @@ page-told x typed = page-causes (overlayAt x) (firstOf x) (x .ticket) (x .counte
     never n h y z e = first-not (x .windows) (x .shape) (x .cells) (x .order) n h y z e
 
 pub run-told : (windows : Option (List ℕ)) (s : Shape) (cells : List ℤ) (order table : List ℕ) (work : ℕ)
-    → let o = overlayOf windows s cells in RunCauses (firstCause windows s cells order) (length (o .table)) (room o table) work (runCause windows s cells order table work)
+    → let o = overlayOf windows s cells in RunCauses (causeBefore windows s cells order) (length (o .table)) (room o table) work (runCause windows s cells order table work)
 unfolding runCause
-run-told windows s cells order table work = run-causes (overlayOf windows s cells) (firstCause windows s cells order) table work (never 7 (omega arith) (λ e. omega arith) (λ e. omega arith)) (never 19 (omega arith) (λ e. omega arith) (λ e. omega arith))
+run-told windows s cells order table work = run-causes (overlayOf windows s cells) (causeBefore windows s cells order) table work (never 7 (omega arith) (λ e. omega arith) (λ e. omega arith)) (never 19 (omega arith) (λ e. omega arith) (λ e. omega arith))
   where
-    never : (n : ℕ) → 5 < n → (n ≡ 17 → ⊥) → (n ≡ 24 → ⊥) → firstCause windows s cells order ≡ n → ⊥
+    never : (n : ℕ) → 5 < n → (n ≡ 17 → ⊥) → (n ≡ 24 → ⊥) → causeBefore windows s cells order ≡ n → ⊥
     never n h y z e = first-not windows s cells order n h y z e
 
 -- ---- refusals

@@ -15,12 +15,13 @@ use Rattle.plan.specs.Plan.{layers, Sound}
 use Rattle.plan.proofs.Plan.{or-else-zero, unless-zero}
 use Rattle.plan.proofs.Theorems.{plans}
 use Rattle.sweep.specs.Sweep.{orderCause}
+use Rattle.windows.specs.HoursCall.{hoursCause}
 use Rattle.paging.specs.declared.Run.{Run}
 use Rattle.paging.specs.declared.Run.the-variants as Run
 use Rattle.paging.specs.Overlays.{Overlay, overlay, overlayOf}
 use Rattle.paging.specs.Pages.{room}
-use Rattle.paging.specs.Calls.{firstCause, runCause, runCall, runTable}
-use Rattle.paging.specs.Inner.{runCauseOn, runCallOn, runTableOn}
+use Rattle.paging.specs.Calls.{runCause, runCall, runTable}
+use Rattle.paging.specs.Inner.{causeBefore, runCauseOn, runCallOn, runTableOn}
 use Rattle.rows.specs.Tables.{rowsIn}
 use Rattle.paging.specs.Theorems.{RunHolds}
 use Rattle.paging.proofs.Overlays.{Lawful, laws-of, sizes-same}
@@ -71,20 +72,21 @@ module _ (s : Shape) (cells : List ℤ) {S : Type 0} (o : Overlay S) (l : Lawful
 
 -- ---- a run of a plan, timed or not
 -- demand 3, of one run
-pub runs-hold : (windows : Option (List ℕ)) (s : Shape) (cells : List ℤ) (order table : List ℕ) (work : ℕ) → Sound s cells → firstCause windows s cells order ≡ 0 → 2 * length (overlayOf windows s cells .table) ≤ work
+pub runs-hold : (windows : Option (List ℕ)) (s : Shape) (cells : List ℤ) (order table : List ℕ) (work : ℕ) → Sound s cells → causeBefore windows s cells order ≡ 0 → 2 * length (overlayOf windows s cells .table) ≤ work
     → RunHolds s cells (overlayOf windows s cells) table (runCause windows s cells order table work) (runCall windows s cells order table work) (runTable windows s cells order table work)
 unfolding runCause runCall runTable
 runs-hold windows s cells order table work sound passed enough =
     let o = overlayOf windows s cells in
-    ran-holds s cells o (laws-of windows s cells sound) (ap length (sizes-same windows s cells) ∙ plans .frames s cells sound .2) (firstCause windows s cells order) table work passed enough
+    ran-holds s cells o (laws-of windows s cells sound) (ap length (sizes-same windows s cells) ∙ plans .frames s cells sound .2) (causeBefore windows s cells order) table work passed enough
 
 pub run-holds : (s : Shape) (cells : List ℤ) (order table : List ℕ) (work : ℕ) → Sound s cells → orderCause s cells order ≡ 0 → 2 * length (overlay s cells .table) ≤ work
     → RunHolds s cells (overlay s cells) table (runCause none s cells order table work) (runCall none s cells order table work) (runTable none s cells order table work)
+unfolding orderCause hoursCause
 run-holds s cells order table work sound passed enough = runs-hold none s cells order table work sound passed enough
 
 -- a run that is not refused has its order, and cells enough to work with
 pub run-passed : (s : Shape) (cells : List ℤ) (order table : List ℕ) (work : ℕ) → runCause none s cells order table work ≡ 0 → (orderCause s cells order ≡ 0) × (2 * length (overlay s cells .table) ≤ work)
-unfolding runCause
+unfolding runCause orderCause hoursCause
 run-passed s cells order table work e =
     let o = overlay s cells in
     let q = or-else-zero (orderCause s cells order orElse unless (leb (length (o .table)) (room o table)) 7) _ e in

@@ -25,7 +25,7 @@ use Rattle.paging.specs.Theorems.{Call, overlayAt, cause, answer, after,
 use Rattle.paging.proofs.Overlays.{of-plan, of-timed, laws-of}
 use Rattle.paging.proofs.Resume.{resume-due}
 use Rattle.paging.proofs.Named.{due-is, left-due}
-use Rattle.paging.proofs.Causes.{sound-of, fresh-checks, page-told, page-checks, run-checks, refused-fresh, refused-page, refused-run}
+use Rattle.paging.proofs.Causes.{sound-of, sound-ordered, fresh-checks, page-told, page-checks, run-checks, refused-fresh, refused-page, refused-run}
 use Rattle.paging.proofs.Pages.{page-holds}
 use Rattle.paging.proofs.Serving.{serves-own, accepted-first}
 
@@ -46,7 +46,7 @@ pub fresh-accepted : (windows : Option (List ℕ)) (s : Shape) (cells : List ℤ
 unfolding freshCause freshCall freshCounter
 fresh-accepted windows s cells order counter typed e l =
     let h = eq-eqb (length counter) 1 l in
-    let b = same-begin windows s cells (sound-of none s cells order typed e) in
+    let b = same-begin windows s cells (sound-ordered s cells order typed e) in
     (rw (e, h) (ap (λ (c : Cursor). record { number = 0; ticket = record { cursor = c; count = 0 } }) b), rw (e, h))
 
 -- the checks that it passes
@@ -66,7 +66,7 @@ fresh-due : (windows : Option (List ℕ)) (s : Shape) (cells : List ℤ) (order 
 fresh-due windows s cells order counter typed f =
     let c = fresh-passed s cells order counter f in
     let h = fresh-accepted windows s cells order counter typed (c .0) (c .1) in
-    let d = due-left windows s cells (sound-of none s cells order typed (c .0)) 0 in
+    let d = due-left windows s cells (sound-ordered s cells order typed (c .0)) 0 in
     (rw (h .0), rw (h .0) d, rw (h .0), h .1)
 
 -- ---- one page call

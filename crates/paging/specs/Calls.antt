@@ -8,13 +8,13 @@ use Prim.Native.Nat.{ℕ, _+_, _*_}
 use lib.IntN.{ℤ}
 use lib.Dec.{eqb, leb, ltb}
 use lib.ListN.{length, getD}
-use Rattle.lists.specs.Lists.{isSome}
+use Rattle.lists.specs.Lists.{isSome, same}
 use Rattle.totals.specs.declared.Total.{Total}
 use Rattle.totals.specs.Totals.{totalOf}
 use Rattle.plan.specs.declared.Shape.{Shape}
 use Rattle.plan.specs.Causes.{unless, _orElse_, onCause}
-use Rattle.plan.specs.Plan.{Layer, layers}
-use Rattle.sweep.specs.Sweep.{orderCause}
+use Rattle.plan.specs.Plan.{Layer, layers, grown}
+use Rattle.sweep.specs.Sweep.{sweepOrder, orderCause}
 use Rattle.ground.specs.Union.{unionOf, grounds}
 use Rattle.walk.specs.Walk.{placesOf}
 use Rattle.windows.specs.HoursCall.{hoursCause}
@@ -60,13 +60,7 @@ module _ (s : Shape) (cells : List ℤ) (order counter : List ℕ) where
   unfoldable pub freshCounter : List ℕ
   freshCounter = onCause freshCause (0 ∷ []) (λ n. counter)
 
--- ---- the page call and the whole run. 02, Q-12: "Only the whole run and the page call get a timed form": with `windows`, the lent cells of the plan's windows
--- the checks that both begin with: 1 2 17 3 4, 02: "24, after 4", and 5. What they come to is said of each call (Theorems.antt: `OrderChecks`)
-abbrev pub firstCause : (windows : Option (List ℕ)) → Shape → List ℤ → (order : List ℕ) → ℕ
-firstCause none s cells order = orderCause s cells order
-firstCause (some hours) s cells order = hoursCause s cells hours orElse orderCause s cells order
-
--- ---- the page call
+-- ---- the page call. 02, Q-12: "Only the whole run and the page call get a timed form": with `windows`, the lent cells of the plan's windows
 -- 01's number of each stop: 0 where the call is accepted
 abbrev pub stopNumber : Stop → ℕ
 stopNumber Ended = 0
@@ -79,13 +73,16 @@ abbrev pub refusedPage : Ticket → ℕ → Page
 refusedPage t cause = record { stop = Refused cause; rows = 0; probes = 0; area = totalOf 0; ticket = t }
 
 module _ (windows : Option (List ℕ)) (s : Shape) (cells : List ℤ) (order : List ℕ) (t : Ticket) (counter : List ℕ) where
-  -- its checks: behind `firstCause` 6, which leaves the ticket's count aside, and then 18. 02: "In a timed call 6, 7 and 19 speak of the timed walk and its
-  -- rows."
+  -- its checks: 1 2 17 3 4, 24 where it is timed, 5, then 6, which leaves the ticket's count aside, and 18. 02: "In a timed call 6, 7 and 19 speak of the
+  -- timed walk and its rows."
   unfoldable pub pageCause : ℕ
   pageCause =
-      firstCause windows s cells order orElse unless (isSome (resume (overlayOf windows s cells) (t .cursor))) 6 orElse unless (current (t .count) counter) 18
+      let o = overlayOf windows s cells in
+      hoursCause windows s cells orElse unless (same order (sweepOrder (grown s cells))) 5
+      orElse unless (isSome (resume o (t .cursor))) 6 orElse unless (current (t .count) counter) 18
 
-module _ (windows : Option (List ℕ)) (s : Shape) (cells : List ℤ) (order : List ℕ) (t : Ticket) (counter : List ℕ) (budget : ℕ) (table : List ℕ) where
+module _ (windows : Option (List ℕ)) (s : Shape) (cells : List ℤ) (order : List ℕ)
+    (t : Ticket) (counter : List ℕ) (budget : ℕ) (table : List ℕ) where
   -- what it answers
   unfoldable pub pageCall : Page
   pageCall =
@@ -110,12 +107,13 @@ abbrev pub groundOnce : List Layer → List (List ℕ) → Total
 groundOnce ls rows = totalOf (unionOf (grounds ls rows))
 
 module _ (windows : Option (List ℕ)) (s : Shape) (cells : List ℤ) (order table : List ℕ) (work : ℕ) where
-  -- its checks: behind `firstCause` 7 where "J has more rows than the table takes", and 19. 02, Q-6: "work buffer shorter than two cells a row, 19, after 7";
-  -- `work` is how many cells it has
+  -- its checks: 1 2 17 3 4, 24 where it is timed, 5, then 7 where "J has more rows than the table takes", and 19. 02, Q-6: "work buffer shorter than two
+  -- cells a row, 19, after 7"; `work` is how many cells it has
   unfoldable pub runCause : ℕ
   runCause =
       let o = overlayOf windows s cells in
-      firstCause windows s cells order orElse unless (leb (length (o .table)) (room o table)) 7 orElse unless (leb (2 * length (o .table)) work) 19
+      hoursCause windows s cells orElse unless (same order (sweepOrder (grown s cells))) 5 orElse unless (leb (length (o .table)) (room o table)) 7
+      orElse unless (leb (2 * length (o .table)) work) 19
 
   -- 01: "returns rows, trials (the walk's length) and the area sum"; 02, Q-6: "The whole run returns this beside the area sum"
   unfoldable pub runCall : Run

@@ -1,12 +1,17 @@
 -- The calls' answers over any overlay, behind any cause of the checks before their own: what the code under them promises, by the words of Calls.antt. No
 -- public call's contract cites this. `before` is the cause of the checks before a call's own, `cause` that of all its checks.
 use mathlib.Core.List.{List, [], _∷_, map}
+use mathlib.Core.Option.{Option}
 use Prim.Native.Nat.{ℕ, _+_, _*_}
+use lib.IntN.{ℤ}
 use lib.Dec.{leb}
 use lib.ListN.{length}
-use Rattle.lists.specs.Lists.{isSome}
+use Rattle.lists.specs.Lists.{isSome, same}
 use Rattle.plan.specs.Causes.{unless, _orElse_, onCause}
-use Rattle.plan.specs.Plan.{Layer}
+use Rattle.plan.specs.declared.Shape.{Shape}
+use Rattle.plan.specs.Plan.{Layer, grown}
+use Rattle.sweep.specs.Sweep.{sweepOrder}
+use Rattle.windows.specs.HoursCall.{hoursCause}
 use Rattle.rows.specs.Tables.{fill}
 use Rattle.walk.specs.Walk.{placesOf}
 use Rattle.paging.specs.declared.Ticket.{Ticket}
@@ -17,6 +22,10 @@ use Rattle.paging.specs.Overlays.{Overlay}
 use Rattle.paging.specs.Cursors.{resume}
 use Rattle.paging.specs.Pages.{room, paged, areaSum, pageOf}
 use Rattle.paging.specs.Calls.{current, refusedPage, groundOnce}
+
+-- the cause of the checks that page call and whole run begin with: 1 2 17 3 4, 24 where it is timed, and 5
+abbrev pub causeBefore : (windows : Option (List ℕ)) → Shape → List ℤ → (order : List ℕ) → ℕ
+causeBefore windows s cells order = hoursCause windows s cells orElse unless (same order (sweepOrder (grown s cells))) 5
 
 module _ {S : Type 0} (o : Overlay S) where
   -- ---- the page call

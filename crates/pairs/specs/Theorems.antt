@@ -51,7 +51,8 @@ pub record PairHolds (ls : List Layer) (row : List ℕ) (answer : PairAnswer) : 
   -- "Such a pair is there exactly when the combination has no common point"
   pub exactly : ((i : ℕ) × (j : ℕ) × IsPair ls row i j) ↔ (InJoin ls row → ⊥)
   -- "the smallest part of it that shows this": no row of J has the two rectangles of such a pair, whatever the others are ...
-  pub shows : (i j : ℕ) → IsPair ls row i j → (other : List ℕ) → getD other i 0 ≡ getD row i 0 → getD other j 0 ≡ getD row j 0 → InJoin ls other → ⊥
+  pub shows : (i j : ℕ) → IsPair ls row i j → (other : List ℕ) → getD other i 0 ≡ getD row i 0 → getD other j 0 ≡ getD row j 0
+      → InJoin ls other → ⊥
   -- ... and no smaller part shows it: a rectangle alone has a point
   pub alone : (i : ℕ) → i < length ls → Holds (chosen ls row i)
 

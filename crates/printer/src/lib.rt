@@ -87,7 +87,8 @@ fn put_ground(buf: &mut [u8], at: usize, area: u64, kind: Kind) -> usize
 // A ROW line from its places on; the place behind it.
 fn put_places(buf: &mut [u8], at: usize, row: &[u32], area: u64, kind: Kind) -> usize
     requires { ⌜ FitsAt (now buf) at (tabbed (now row) ++ fieldsEnd (decimal area ∷ (letterOf kind ∷ []) ∷ [])) ⌝ }
-    ensures { λ r. ⌜ Put (now (buf .entry)) at (tabbed (now (row .entry)) ++ fieldsEnd (decimal area ∷ (letterOf kind ∷ []) ∷ [])) (now (buf .exit)) r ⌝ }
+    ensures { λ r. ⌜ Put (now (buf .entry)) at (tabbed (now (row .entry))
+        ++ fieldsEnd (decimal area ∷ (letterOf kind ∷ []) ∷ [])) (now (buf .exit)) r ⌝ }
 {
     let a = put_fields(buf, at, row);
     put_ground(buf, a, area, kind)

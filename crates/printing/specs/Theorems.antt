@@ -33,7 +33,8 @@ pub record Rounds : Type 0 where
   pub line : (rows probes n : ℕ) → totalLine rows probes (totalOf n)
       ≡ 84 ∷ 79 ∷ 84 ∷ 65 ∷ 76 ∷ 9 ∷ (decimal rows ++ 9 ∷ (decimal probes ++ 9 ∷ (squareMetres ((n + 5000) / 10000) ++ 10 ∷ [])))
   -- 02, Q-13: "Rounding up at half a hundredth carries into the whole metres": from 995,000 square millimetres on the rest is one metre more, and nothing
-  pub carries : (t : Total) → 995000 ≤ t .rest → t .rest < 1000000 → squareMetres (hundredths (valueOf t)) ≡ decimal (t .metres + 1) ++ 46 ∷ 48 ∷ 48 ∷ []
+  pub carries : (t : Total) → 995000 ≤ t .rest → t .rest < 1000000
+      → squareMetres (hundredths (valueOf t)) ≡ decimal (t .metres + 1) ++ 46 ∷ 48 ∷ 48 ∷ []
   -- ... and below them only decimals
   pub stays : (t : Total) → t .rest < 995000 → squareMetres (hundredths (valueOf t)) ≡ decimal (t .metres) ++ 46 ∷ digits 2 ((t .rest + 5000) / 10000)
   -- printed with a point and two digits, tenths and hundredths

@@ -87,7 +87,8 @@ fn report_cells(
     table: &mut [u32],
     out: &mut [u8],
 ) -> usize
-    requires { ⌜ Sound shape (now cells) × (count (now cells) ≤ length (now order)) × (length (now table) ≡ runTableCells) × (roomForAny ≤ length (now out)) ⌝ }
+    requires { ⌜ Sound shape (now cells) × (count (now cells) ≤ length (now order)) × (length (now table) ≡ runTableCells)
+        × (roomForAny ≤ length (now out)) ⌝ }
     ensures { λ r. ⌜ Put (now (out .entry)) 0 (planReport shape (now (cells .entry))) (now (out .exit)) r ⌝ }
 {
     let n = cells.len() / 4;
@@ -102,7 +103,8 @@ fn report_sound(
     table: &mut [u32],
     out: &mut [u8],
 ) -> usize
-    requires { ⌜ Sound shape (now cells) × (length (now order) ≡ count (now cells)) × (length (now table) ≡ runTableCells) × (roomForAny ≤ length (now out)) ⌝ }
+    requires { ⌜ Sound shape (now cells) × (length (now order) ≡ count (now cells)) × (length (now table) ≡ runTableCells)
+        × (roomForAny ≤ length (now out)) ⌝ }
     ensures { λ r. ⌜ Put (now (out .entry)) 0 (planReport shape (now (cells .entry))) (now (out .exit)) r ⌝ }
 {
     make_order(shape, cells, order);

@@ -21,7 +21,7 @@ use Rattle.sweep.specs.Sweep.{sweepOrder}
 use Rattle.join.specs.Table.{planTable}
 use Rattle.paging.specs.Pages.{room}
 use Rattle.paging.specs.Calls.{runCause}
-use Rattle.sweep.proofs.Theorems.{order-passes}
+use Rattle.paging.proofs.Causes.{first-passes}
 use Rattle.plan.proofs.Plan.{checked, unless-zero}
 use Rattle.plan.proofs.Theorems.{plans}
 use Rattle.text.specs.Plans.{textOf}
@@ -50,7 +50,7 @@ module _ (s : Shape) (cells : List ℤ) (sound : Sound s cells) where
   -- its whole run has at most the cause 7
   run-cause : runCause none s cells (sweepOrder (grown s cells)) emptyTable runWorkCells ≡ unless (leb (length (planTable s cells)) (12288 / s .k)) 7
   unfolding runCause
-  run-cause = rw (order-passes s cells (sound .passed), rooms) (go (leb (length (planTable s cells)) (12288 / s .k)) refl)
+  run-cause = rw (first-passes s cells (sweepOrder (grown s cells)) none (sound .passed) tt refl, rooms) (go (leb (length (planTable s cells)) (12288 / s .k)) refl)
     where
       go : (b : Bool) → leb (length (planTable s cells)) (12288 / s .k) ≡ b → (unless b 7 orElse unless (leb (2 * length (planTable s cells)) 12288) 19) ≡ unless b 7
       go true e = rw (le-leb (2 * length (planTable s cells)) 12288 (work-fits (leb-true (length (planTable s cells)) (12288 / s .k) e)))

@@ -62,6 +62,7 @@ RoundRun s cells first counter t xs = (ys : List CellRound) (x : CellRound) (zs 
 pub record RoundsInCells : Type 0 where
   pub rounds : (q : Request) (given : List ℕ) → Typed (q .shape) → length given ≡ 192 → q .tickets ≡ ticketsIn given → RoundInCells q given
   -- so what is said of lists of rounds holds of every list of exported ones, for any client whose run an accepted fresh call begins
-  pub lists : (s : Shape) (cells : List ℤ) (order counter : List ℕ) (t : ℕ) (xs : List CellRound) → Typed s → freshCause s cells order counter ≡ 0 → 1 ≤ t
+  pub lists : (s : Shape) (cells : List ℤ) (order counter : List ℕ) (t : ℕ) (xs : List CellRound)
+      → Typed s → freshCause s cells order counter ≡ 0 → 1 ≤ t
       → let first = freshCall s cells order counter .ticket in let left = freshCounter s cells order counter in
       RoundRun s cells first left t xs → ListHolds s cells first left t (map (λ x. x .round) xs)

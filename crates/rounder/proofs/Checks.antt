@@ -16,7 +16,10 @@ use Rattle.plan.proofs.Plan.{or-else-first}
 use Rattle.paging.specs.declared.Ticket.{Ticket}
 use Rattle.paging.specs.Overlays.{overlay}
 use Rattle.paging.specs.Cursors.{endedCursor}
+use Rattle.sweep.specs.Sweep.{orderCause}
+use Rattle.windows.specs.HoursCall.{hoursCause}
 use Rattle.paging.specs.Calls.{pageCause}
+use Rattle.paging.specs.Inner.{causeBefore}
 use Rattle.slots.specs.declared.Frame.{Frame}
 use Rattle.pager.specs.Answers.{overlayIn, plainOverlay, ticketCause}
 use Rattle.rounds.specs.Rounds.{ticketOf, counterOf, fits}
@@ -59,10 +62,15 @@ module _ {s : Shape} {plain : List ℤ} {order : List ℕ} {here : List ℤ} {f 
   pub same-overlay : plainOverlay f here ≡ overlay s plain
   same-overlay = ap₂ (λ (ns : List ℕ) (l : List ℤ). overlayIn false ns l []) (k .sizes) (k .is)
 
+  -- the checks before a page call's own, without windows
+  passed-before : causeBefore none s plain order ≡ 0
+  unfolding orderCause hoursCause
+  passed-before = k .passed
+
   -- what is left of a page call's checks behind those of plan and order
   pub ticket-checks : (t : Ticket) (counter : List ℕ) → pageCause none s plain order t counter ≡ ticketCause (plainOverlay f here) t counter
   unfolding pageCause
-  ticket-checks t counter = rw (k .passed, same-overlay)
+  ticket-checks t counter = rw (passed-before, same-overlay)
 
 module _ (order : List ℕ) (here : List ℤ) (f : Frame) (m : ℕ) (tickets : List Ticket) (counters : List ℕ) where
   -- the first i clients are let through

@@ -15,6 +15,7 @@ use Rattle.plan.specs.Plan.{grown, Typed}
 use Rattle.plan.proofs.Plan.{or-else-zero, unless-zero}
 use Rattle.plan.proofs.Causes.{check-last, check-then}
 use Rattle.plan.proofs.Theorems.{plan-then}
+use Rattle.windows.specs.HoursCall.{hoursCause}
 use Rattle.sweep.specs.Sweep.{sweepOrder, orderCause}
 use Rattle.sweep.proofs.Theorems.{sweep-holding}
 use Rattle.paging.specs.Overlays.{overlay}
@@ -76,6 +77,7 @@ module _ (q : Request) where
 
     -- where the order is let through, a client is refused by 6 or 18
     client-checks : ordered ≡ 0 → (t : ℕ) → Check 6 (Named t) (Check 18 (Counted t) Passed) (causeOf t)
+    unfolding orderCause hoursCause
     client-checks passed t = go (causeOf t) refl
       where
         told : PageCauses ordered (Named t) (Counted t) (causeOf t)

@@ -33,7 +33,7 @@ use Rattle.paging.specs.Theorems.{Call, cause, answer, after, PageHolds}
 use Rattle.demands.specs.Theorems.{OneRun, handed, allowing}
 use Rattle.rows.specs.Tables.{rowsIn}
 use Rattle.demands.proofs.Courses.{Course, begun, advanced, EachOf, each-next, begun-has, course-counter-is}
-use Rattle.paging.proofs.Causes.{sound-of}
+use Rattle.paging.proofs.Causes.{sound-ordered}
 use Rattle.demands.proofs.Theorems.{demand3}
 use Rattle.paging.proofs.Theorems.{page-left}
 use Rattle.rounds.specs.declared.Round.{Round}
@@ -285,7 +285,7 @@ module _ (s : Shape) (cells : List ℤ) (t : ℕ) where
     allows q typed e l enough wide =
         let a = accepted-is q e in
         let b : 1 ≤ q .budget / q .clients = le-div-iff-mul-le {k = q .clients} {x = 1} {y = q .budget} (omega (arith, a .fit .some)) .1 (omega arith) in
-        let frame = plans .frames (q .shape) (q .cells) (sound-of none (q .shape) (q .cells) (q .order) typed (a .passed)) in
+        let frame = plans .frames (q .shape) (q .cells) (sound-ordered (q .shape) (q .cells) (q .order) typed (a .passed)) in
         let many : length (sizesOf (q .shape)) ≡ q .shape .k = frame .2 in
         let more : 2 ≤ q .shape .k = omega (arith, frame .0 .some) in
         let part = its-part q typed e t low l in

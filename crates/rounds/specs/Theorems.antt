@@ -41,7 +41,8 @@ ClientChecks q t (suc n) =
 -- not so where "m outside 1 to 16, the first tablet not among them, B above 2^32 − 1, or not m run records"
 abbrev pub InBounds : Request → Type 0
 InBounds q =
-    (1 ≤ q .clients) × (q .clients ≤ 16) × (1 ≤ q .first) × (q .first ≤ q .clients) × (q .budget ≤ 4294967295) × (length (q .counters) ≡ q .clients)
+    (1 ≤ q .clients) × (q .clients ≤ 16) × (1 ≤ q .first) × (q .first ≤ q .clients) × (q .budget ≤ 4294967295)
+    × (length (q .counters) ≡ q .clients)
 
 -- the lines of a round: the plan's own and 5, then "22, after 5"
 abbrev pub RoundChecks : Request → ℕ → Type 0
@@ -180,6 +181,7 @@ pub record RoundsHold : Type 0 where
   -- every list of rounds, and the run of any client that an accepted fresh start begins: each accepted round that serves it brings the same plan, a ticket of
   -- its run, and its counter as the fresh start or the last such round left it: what a round returns to it and leaves is its page call's (`ClientHolds`).
   -- Whatever these rounds bring for others is free, and all that a refused round, or one that does not serve it, brings
-  pub lists : (s : Shape) (cells : List ℤ) (order counter : List ℕ) (t : ℕ) (qs : List Request) → Typed s → freshCause s cells order counter ≡ 0 → 1 ≤ t
+  pub lists : (s : Shape) (cells : List ℤ) (order counter : List ℕ) (t : ℕ) (qs : List Request)
+      → Typed s → freshCause s cells order counter ≡ 0 → 1 ≤ t
       → let first = freshCall s cells order counter .ticket in let left = freshCounter s cells order counter in
       OneRun none s cells first left (callsOf t qs) → ListHolds s cells first left t qs

@@ -121,7 +121,8 @@ module _ (across upward : Strip) (corners : List Float) (cs : List Corners) wher
 
 pub record Surveys : Type 0 where
   -- the cover contains its record, no smaller one does, and no other rectangle is so
-  pub cover : (c : Corners) (r : Rect) → Finite (c .left) → Finite (c .bottom) → Finite (c .right) → Finite (c .top) → IsCover c r ↔ (r ≡ coverOf c)
+  pub cover : (c : Corners) (r : Rect) → Finite (c .left) → Finite (c .bottom) → Finite (c .right) → Finite (c .top)
+      → IsCover c r ↔ (r ≡ coverOf c)
   -- 02, Q-13: "Coordinates widen to 10,000,000 either way of 0, in 4, 10, 14 and 20 alike": the cover is in range exactly when the record is, as exact
   -- values; a corner at the ten million itself is
   pub reach : (c : Corners) → Ordered (c .left) (c .right) → Ordered (c .bottom) (c .top) → let m = pos 10000000 in

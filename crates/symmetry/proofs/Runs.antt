@@ -9,6 +9,7 @@ use Rattle.plan.proofs.Theorems.{plans}
 use Rattle.plan.specs.Plan.{grown}
 use Rattle.sweep.specs.Sweep.{sweepOrder, orderCause}
 use Rattle.sweep.proofs.Theorems.{order-passed}
+use Rattle.windows.specs.HoursCall.{hoursCause}
 use Rattle.totals.specs.Totals.{totalOf, valueOf}
 use Rattle.totals.proofs.Totals.{value-total}
 use Rattle.paging.specs.declared.Run.{Run}
@@ -17,7 +18,7 @@ use Rattle.paging.specs.Pages.{room}
 use Rattle.paging.specs.Calls.{runCause, runCall, runTable, runValues}
 use Rattle.rows.specs.Tables.{rowsIn}
 use Rattle.paging.specs.Theorems.{RunHolds}
-use Rattle.paging.proofs.Causes.{run-told, sound-of}
+use Rattle.paging.proofs.Causes.{run-told, sound-ordered}
 use Rattle.paging.proofs.Runs.{run-holds}
 use Rattle.symmetry.specs.Plans.{Plan, arrangedRow, countedOn}
 use Rattle.symmetry.specs.Theorems.{Accepted, tableIn, areasIn, unionIn, SameSet, AcceptedToo, Rearranged, Cut, Lent, Ran, answer, handedOut}
@@ -25,10 +26,11 @@ use Rattle.symmetry.specs.Theorems.{Accepted, tableIn, areasIn, unionIn,
 module _ (p : Plan) (l : Lent) (r : Ran p l) where
   -- the order is right, the table takes all rows, and the work buffer has two cells for each
   passed : (orderCause (p .shape) (p .cells) (l .order) ≡ 0) × (length (tableIn p) ≤ room (overlay (p .shape) (p .cells)) (l .table)) × (2 * length (tableIn p) ≤ l .work)
+  unfolding orderCause hoursCause
   passed = run-told none (p .shape) (p .cells) (l .order) (l .table) (l .work) .none .0 (r .1)
 
   holds : RunHolds (p .shape) (p .cells) (overlay (p .shape) (p .cells)) (l .table) (runCause none (p .shape) (p .cells) (l .order) (l .table) (l .work)) (runCall none (p .shape) (p .cells) (l .order) (l .table) (l .work)) (runTable none (p .shape) (p .cells) (l .order) (l .table) (l .work))
-  holds = run-holds (p .shape) (p .cells) (l .order) (l .table) (l .work) (sound-of none (p .shape) (p .cells) (l .order) (r .0) (passed .0)) (passed .0) (passed .2)
+  holds = run-holds (p .shape) (p .cells) (l .order) (l .table) (l .work) (sound-ordered (p .shape) (p .cells) (l .order) (r .0) (passed .0)) (passed .0) (passed .2)
 
   run-count : answer p l .rows ≡ length (tableIn p)
   run-count = ap (λ (v : Run). runValues v .rows) (holds .done (r .1))
@@ -58,6 +60,7 @@ room-k p q t a b e =
 -- what suffices for a plan suffices for one of as many layers and no more rows
 pub runs-too : (p q : Plan) (l : Lent) → AcceptedToo p q → length (tableIn q) ≤ length (tableIn p) → Ran p l
     → Ran q (record { order = sweepOrder (grown (q .shape) (q .cells)); table = l .table; work = l .work })
+unfolding orderCause hoursCause
 runs-too p q l (e, b) h r = (
   b .typed,
   run-told none (q .shape) (q .cells) (sweepOrder (grown (q .shape) (q .cells))) (l .table) (l .work) .none .1 (

@@ -149,11 +149,13 @@ pub record LayersInAnyOrder : Type 0 where
   pub cut : (j m n : ℕ) (p : Plan) → Accepted p → j < p .shape .k → drawnAt p j .size ≡ m + n → Cut j m n p (piece j 0 m p) (piece j m n p)
   -- "counted on from the first": at j by m, and nowhere else
   pub counted : (j m : ℕ) (row : List ℕ)
-      → (j < length row → getD (countedOn j m row) j 0 ≡ m + getD row j 0) × ((i : ℕ) → (i ≡ j → ⊥) → getD (countedOn j m row) i 0 ≡ getD row i 0)
+      → (j < length row → getD (countedOn j m row) j 0 ≡ m + getD row j 0)
+      × ((i : ℕ) → (i ≡ j → ⊥) → getD (countedOn j m row) i 0 ≡ getD row i 0)
   pub ground : TakingGround
   -- so it is with what accepted whole runs hand out and return, with any orders, tables and work buffers
   pub runs : (places : List ℕ) (p q : Plan) (l m : Lent) → Rearranged places p q → Ran p l → Ran q m
-      → SameSet (handedOut q m) (map (arrangedRow places) (handedOut p l)) × (answer q m .area ≡ answer p l .area) × (answer q m .ground ≡ answer p l .ground)
+      → SameSet (handedOut q m) (map (arrangedRow places) (handedOut p l)) × (answer q m .area ≡ answer p l .area)
+      × (answer q m .ground ≡ answer p l .ground)
   pub runs-cut : (j m n : ℕ) (p one two : Plan) (l a b : Lent) → Cut j m n p one two → Ran p l → Ran one a → Ran two b
       → SameSet (handedOut p l) (handedOut one a ++ map (countedOn j m) (handedOut two b))
       × (valueOf (answer one a .area) + valueOf (answer two b .area) ≡ valueOf (answer p l .area))

@@ -37,7 +37,8 @@ pub record CrossingReports (s : Shape) (cells : List ℤ) (order table : List �
       PlanChecks s cells (Check 15 (3 ≤ s .k) (Check 16 (Segments s cells) (Check 5 (order ≡ sweepOrder (grown s cells))
       (Check 7 (n ≤ takes o table) (Check 19 (2 * n ≤ work) Passed))))) refusal
   -- it is the whole run, with the counts
-  pub run : refusal ≡ 0 → (told .run ≡ runCall none s cells order table work) × Counts s cells (told .counts) × (left ≡ runTable none s cells order table work)
+  pub run : refusal ≡ 0
+      → (told .run ≡ runCall none s cells order table work) × Counts s cells (told .counts) × (left ≡ runTable none s cells order table work)
   -- a refusal: its number, seventeen times 0, the table as it was
   pub refused : (n : ℕ) → refusal ≡ suc n
       → (told .run ≡ Refused (suc n)) × (length (told .counts) ≡ 17) × ((class : ℕ) → getD (told .counts) class 0 ≡ 0) × (left ≡ table)

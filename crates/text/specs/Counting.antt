@@ -18,11 +18,27 @@ use Rattle.text.specs.Parsing.{allLines}
 
 -- nothing is counted yet
 abbrev pub noneYet : Tally
-noneYet = record { formed = true; good = true; due = 0; layers = 0; rects = 0; sizes = 0 ∷ 0 ∷ 0 ∷ 0 ∷ 0 ∷ 0 ∷ []; margins = 0 ∷ 0 ∷ 0 ∷ 0 ∷ 0 ∷ 0 ∷ [] }
+noneYet = record {
+  formed = true;
+  good = true;
+  due = 0;
+  layers = 0;
+  rects = 0;
+  sizes = 0 ∷ 0 ∷ 0 ∷ 0 ∷ 0 ∷ 0 ∷ [];
+  margins = 0 ∷ 0 ∷ 0 ∷ 0 ∷ 0 ∷ 0 ∷ [];
+}
 
 -- the text is not well formed
 abbrev pub unformed : Tally
-unformed = record { formed = false; good = false; due = 0; layers = 0; rects = 0; sizes = 0 ∷ 0 ∷ 0 ∷ 0 ∷ 0 ∷ 0 ∷ []; margins = 0 ∷ 0 ∷ 0 ∷ 0 ∷ 0 ∷ 0 ∷ [] }
+unformed = record {
+  formed = false;
+  good = false;
+  due = 0;
+  layers = 0;
+  rects = 0;
+  sizes = 0 ∷ 0 ∷ 0 ∷ 0 ∷ 0 ∷ 0 ∷ [];
+  margins = 0 ∷ 0 ∷ 0 ∷ 0 ∷ 0 ∷ 0 ∷ [];
+}
 
 -- something is miscounted or out of range
 abbrev pub spoilt : Tally → Tally

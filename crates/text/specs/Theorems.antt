@@ -50,9 +50,11 @@ pub record TextHolds (room : ℕ) (t : List ℕ) : Type 0 where
   -- "text not well formed", "well formed, but" no plan's text, "text accepted, cells fewer than 4n"
   pub causes : Check 9 (Formed t) (Check 10 (PlanText t) (Check 11 ((p : PlanText t) → length (p .plan) ≤ room) Passed)) (readCause room t)
   -- 02, Q-4: "old LAYER lines are no longer well formed": where LAYER and a single number stand behind whole lines, it is 9
-  pub old : Formed t → (a : List ℕ) (n : ℤ) (rest : List ℕ) → Spells a n → readCause room (t ++ 76 ∷ 65 ∷ 89 ∷ 69 ∷ 82 ∷ 9 ∷ (a ++ 10 ∷ rest)) ≡ 9
+  pub old : Formed t → (a : List ℕ) (n : ℤ) (rest : List ℕ) → Spells a n
+      → readCause room (t ++ 76 ∷ 65 ∷ 89 ∷ 69 ∷ 82 ∷ 9 ∷ (a ++ 10 ∷ rest)) ≡ 9
   -- "a margin out of range, .. 17, .. in a text 10": not from 0 to 50,000
-  pub margin : (f : Formed t) (n m : ℤ) → List·Memᴰ (Layer n m) (f .others) → ((pos 0 ≤ℤ m) × (m ≤ℤ pos 50000) → ⊥) → readCause room t ≡ 10
+  pub margin : (f : Formed t) (n m : ℤ) → List·Memᴰ (Layer n m) (f .others) → ((pos 0 ≤ℤ m) × (m ≤ℤ pos 50000) → ⊥)
+      → readCause room t ≡ 10
   -- 02, Q-13: "10000001 gives 10": a coordinate that is not from −10,000,000 to 10,000,000, left > right or bottom > top
   pub coordinate : (f : Formed t) (r : Rect) → List·Memᴰ (Rectangle r) (f .others) → (Ranged r → ⊥) → readCause room t ≡ 10
 
@@ -76,7 +78,9 @@ pub record RoundTrip : Type 0 where
   pub texts : (room : ℕ) (t : List ℕ) → TextHolds room t
   pub plans : (s : Shape) (plan : List ℤ) → PlanHolds s plan (textOf s plan)
   -- "A refusal returns its number and 0 for all else": k, the six sizes and the six margins; the cells are as they were
-  pub refused : (t : List ℕ) (cells : List ℤ) (n : ℕ) → let zeros : List ℕ = 0 ∷ 0 ∷ 0 ∷ 0 ∷ 0 ∷ 0 ∷ [] in readCause (length cells) t ≡ suc n
-      → (readAnswer (length cells) t ≡ record { number = suc n; shape = record { k = 0; sizes = zeros; margins = zeros } }) × (cellsAfter t cells ≡ cells)
+  pub refused : (t : List ℕ) (cells : List ℤ) (n : ℕ) → let zeros : List ℕ = 0 ∷ 0 ∷ 0 ∷ 0 ∷ 0 ∷ 0 ∷ [] in
+      readCause (length cells) t ≡ suc n
+      → (readAnswer (length cells) t ≡ record { number = suc n; shape = record { k = 0; sizes = zeros; margins = zeros } })
+      × (cellsAfter t cells ≡ cells)
   -- the number and the length that the writer's answers stand for
   pub values : (n : ℕ) → (numberOf (Written n) ≡ 0) × (lengthOf (Written n) ≡ n) × (numberOf (Refused n) ≡ n) × (lengthOf (Refused n) ≡ 0)

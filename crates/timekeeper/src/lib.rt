@@ -7,6 +7,7 @@ use rows::RowAnswer;
 use windows::HoursAnswer;
 use windows::Window;
 ghost use mathlib.Core.Path.{_≡_};
+ghost use mathlib.Core.Option.{some};
 ghost use mathlib.Core.Bool.{true};
 ghost use Prim.Native.Nat.{_+_, _*_, _≤_, max, min};
 ghost use lib.ListN.{length, take};
@@ -91,7 +92,7 @@ fn is_window(w: Window) -> bool
 
 // The first of the causes 1, 2, 17, 3, 4 and 24 that applies to a plan with its windows, or 0.
 pub fn hours_cause(shape: Shape, cells: &[i32], hours: &[u32]) -> u32
-    ensures { λ r. ⌜ r ≡ hoursCause shape (now (cells .entry)) (now (hours .entry)) ⌝ }
+    ensures { λ r. ⌜ r ≡ hoursCause (some (now (hours .entry))) shape (now (cells .entry)) ⌝ }
 {
     let cause = plan_cause(shape, cells);
     if cause != 0 {

@@ -2,6 +2,7 @@
 use mathlib.Core.Path.{_≡_, refl, sym, ap, _∙_}
 use mathlib.Core.List.{List}
 use mathlib.Core.Bool.{Bool, true, false, cond}
+use mathlib.Core.Option.{some}
 use Prim.Native.Nat.{ℕ, zero, suc, _*_, _≤_}
 use native.Mathlib.Omega.{arith}
 use lib.IntN.{ℤ}
@@ -25,12 +26,12 @@ use Rattle.windows.specs.HoursCall.{hoursCause, hoursCall}
 use Rattle.windows.proofs.Theorems.{hours-passed}
 
 module _ (s : Shape) (cells : List ℤ) (hours places : List ℕ) where
-  pub refused-is : (n : ℕ) → n ≡ hoursCause s cells hours → (n ≡ 0 → ⊥) → Refused n ≡ hoursCall s cells hours places
+  pub refused-is : (n : ℕ) → n ≡ hoursCause (some hours) s cells → (n ≡ 0 → ⊥) → Refused n ≡ hoursCall s cells hours places
   unfolding hoursCall
   refused-is zero e h = absurd (h refl)
   refused-is (suc n) e h = rw (← e)
 
-  module _ (passed : hoursCause s cells hours ≡ 0) where
+  module _ (passed : hoursCause (some hours) s cells ≡ 0) where
     plan-passed : planCause s cells ≡ 0
     plan-passed = hours-passed s cells hours .0 passed .0
 

@@ -3,6 +3,7 @@ use mathlib.Core.Path.{_≡_, refl, sym, _∙_, subst}
 use mathlib.Core.List.{List, [], _∷_, List·Memᴰ}
 use mathlib.Core.Bool.{true, false, _&&_}
 use mathlib.Core.Logic.{_↔_}
+use mathlib.Core.Option.{some}
 use Prim.Native.Nat.{ℕ, suc, _-_, _*_, _≤_, _<_}
 use native.Mathlib.Nat.{le-refl}
 use native.Mathlib.Omega.{arith}
@@ -106,23 +107,23 @@ stated s hours =
     n : ℕ
     n = sum (s .sizes)
 
-pub hours-checks : (s : Shape) (cells : List ℤ) (hours : List ℕ) → PlanChecks s cells (Check 24 (Stated s hours) Passed) (hoursCause s cells hours)
+pub hours-checks : (s : Shape) (cells : List ℤ) (hours : List ℕ) → PlanChecks s cells (Check 24 (Stated s hours) Passed) (hoursCause (some hours) s cells)
 unfolding hoursCause
 hours-checks s cells hours = plan-last s cells 24 (λ e. stated s hours)
 
 -- they pass exactly with their plan, and where they are as stated
-pub hours-passed : (s : Shape) (cells : List ℤ) (hours : List ℕ) → (hoursCause s cells hours ≡ 0) ↔ ((planCause s cells ≡ 0) × Stated s hours)
+pub hours-passed : (s : Shape) (cells : List ℤ) (hours : List ℕ) → (hoursCause (some hours) s cells ≡ 0) ↔ ((planCause s cells ≡ 0) × Stated s hours)
 unfolding hoursCause
 hours-passed s cells hours = check-passed (planCause s cells) 23 (λ e. stated s hours)
 
-hours-refused : (s : Shape) (cells : List ℤ) (hours row : List ℕ) (n : ℕ) → hoursCause s cells hours ≡ suc n
+hours-refused : (s : Shape) (cells : List ℤ) (hours row : List ℕ) (n : ℕ) → hoursCause (some hours) s cells ≡ suc n
     → hoursValues (hoursCall s cells hours row) ≡ record { number = suc n; from = 0; to = 0 }
 unfolding hoursCall
 hours-refused s cells hours row n e = rw e
 
 -- ---- the call
 module _ (s : Shape) (cells : List ℤ) (hours : List ℕ) (sound : Sound s cells) (windows : Stated s hours) (row : List ℕ) where
-  passed : hoursCause s cells hours ≡ 0
+  passed : hoursCause (some hours) s cells ≡ 0
   passed = hours-passed s cells hours .1 (sound .passed, windows)
 
   -- the windows of the row, and what they share

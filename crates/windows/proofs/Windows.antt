@@ -2,6 +2,7 @@
 use mathlib.Core.Path.{_≡_, refl}
 use mathlib.Core.List.{List}
 use mathlib.Core.Bool.{Bool, true, false}
+use mathlib.Core.Option.{some}
 use Prim.Native.Nat.{ℕ, zero, suc, _*_, _≤_, _<_}
 use lib.IntN.{ℤ}
 use lib.Dec.{leb}
@@ -41,11 +42,11 @@ module _ (hours : List ℕ) (n : ℕ) (long : length hours ≡ 2 * n) where
 
 -- ---- the cause
 module _ (s : Shape) (cells : List ℤ) (hours : List ℕ) where
-  pub hours-first : (n : ℕ) → n ≡ planCause s cells → (n ≡ 0 → ⊥) → n ≡ hoursCause s cells hours
+  pub hours-first : (n : ℕ) → n ≡ planCause s cells → (n ≡ 0 → ⊥) → n ≡ hoursCause (some hours) s cells
   unfolding hoursCause
   hours-first zero e h = absurd (h refl)
   hours-first (suc n) e h = rw (← e)
 
-  pub hours-second : planCause s cells ≡ 0 → (n : ℕ) → n ≡ sum (s .sizes) → (t : Bool) → t ≡ areHours n hours → unless t 24 ≡ hoursCause s cells hours
+  pub hours-second : planCause s cells ≡ 0 → (n : ℕ) → n ≡ sum (s .sizes) → (t : Bool) → t ≡ areHours n hours → unless t 24 ≡ hoursCause (some hours) s cells
   unfolding hoursCause
   hours-second e n k t h = rw (e, ← k, h)

@@ -1,6 +1,7 @@
 -- The call for a row's shared minutes (02, Q-12): "Given such a row, one call returns the first shared minute and the first after them; for other cells 0 and
 -- 0."
 use mathlib.Core.List.{List}
+use mathlib.Core.Option.{Option, none, some}
 use mathlib.Core.Bool.{cond, _&&_}
 use Prim.Native.Nat.{ℕ}
 use lib.IntN.{ℤ}
@@ -13,15 +14,16 @@ use Rattle.windows.specs.declared.HoursAnswer.{HoursAnswer}
 use Rattle.windows.specs.declared.HoursAnswer.the-variants.{Refused, NoRow, Shared}
 use Rattle.windows.specs.Windows.{areHours, hoursOf, sharesMinute}
 
--- the first of the causes 1 2 17 3 4 24 that applies to a plan with its windows. 02: "24, after 4"
-unfoldable pub hoursCause : Shape → List ℤ → List ℕ → ℕ
-hoursCause s cells hours = planCause s cells orElse unless (areHours (sum (s .sizes)) hours) 24
+-- the first of the causes 1 2 17 3 4 that applies to a plan, and with its windows, where it comes with some, 24. 02: "24, after 4"
+unfoldable pub hoursCause : (windows : Option (List ℕ)) → Shape → List ℤ → ℕ
+hoursCause none s cells = planCause s cells
+hoursCause (some hours) s cells = planCause s cells orElse unless (areHours (sum (s .sizes)) hours) 24
 
 -- the call
 unfoldable pub hoursCall : Shape → List ℤ → List ℕ → (row : List ℕ) → HoursAnswer
 hoursCall s cells hours row =
     let w = hoursOf (sizesOf s) hours row in
-    onCause (hoursCause s cells hours)
+    onCause (hoursCause (some hours) s cells)
     (cond (isRow (layers s cells) row && sharesMinute (sizesOf s) hours row) (Shared (w .from) (w .to)) NoRow) (λ n. Refused n)
 
 -- the number and values of each answer: the cause or 0, the first shared minute and the first after them

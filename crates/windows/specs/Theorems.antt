@@ -4,6 +4,7 @@ use mathlib.Core.Path.{_≡_}
 use mathlib.Core.Bool.{true}
 use mathlib.Core.List.{List, _∷_, List·Memᴰ}
 use mathlib.Core.Logic.{_↔_}
+use mathlib.Core.Option.{some}
 use Prim.Native.Nat.{ℕ, suc, _+_, _*_, _≤_, _<_}
 use lib.IntN.{ℤ}
 use lib.ListN.{length, getD, take}
@@ -71,8 +72,8 @@ pub record Hours : Type 0 where
   pub minutes : (w : Window) (ws : List Window) → MinutesHold (w ∷ ws)
   pub windows : (ns hours row : List ℕ) → length row ≡ length ns → RowWindows ns hours row (windowsAt (layerHours ns hours) row)
   -- "24, after 4". A refusal returns its number and 0 for all else
-  pub causes : (s : Shape) (cells : List ℤ) (hours : List ℕ) → PlanChecks s cells (Check 24 (Stated s hours) Passed) (hoursCause s cells hours)
-  pub refused : (s : Shape) (cells : List ℤ) (hours row : List ℕ) (n : ℕ) → hoursCause s cells hours ≡ suc n
+  pub causes : (s : Shape) (cells : List ℤ) (hours : List ℕ) → PlanChecks s cells (Check 24 (Stated s hours) Passed) (hoursCause (some hours) s cells)
+  pub refused : (s : Shape) (cells : List ℤ) (hours row : List ℕ) (n : ℕ) → hoursCause (some hours) s cells ≡ suc n
       → hoursValues (hoursCall s cells hours row) ≡ record { number = suc n; from = 0; to = 0 }
   -- for a sound plan and windows as stated
   pub hours : (s : Shape) (cells : List ℤ) (hours : List ℕ) → Sound s cells → Stated s hours

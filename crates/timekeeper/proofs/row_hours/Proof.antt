@@ -1,6 +1,7 @@
 -- `timekeeper::row_hours`: a refusal, and what the row call tells of a plan that is let through.
 use borrow.Author.Needs.{needs}
 use mathlib.Core.Path.{_≡_, sym, ap, _∙_}
+use mathlib.Core.Option.{some}
 use mathlib.Core.Bool.{true, false}
 use Rattle.plan.specs.Plan.{Typed}
 use Rattle.windows.specs.declared.HoursAnswer.{HoursAnswer}
@@ -17,7 +18,7 @@ typed : (c : tie.Start) → Typed (c .args .t1)
 typed c = record { sizes = search needs; margins = search needs }
 
 -- no cause applies, where the check passed
-passed : (c : tie.Else1) → hoursCause (c .before .before .before .before .args .t1) (c .before .before .before .before .args .cells .now) (c .before .before .before .before .args .hours .now) ≡ 0
+passed : (c : tie.Else1) → let a = c .before .before .before .before .args in hoursCause (some (a .hours .now)) (a .t1) (a .cells .now) ≡ 0
 passed c = sym (c .before .hours-cause .ensures) ∙ c .if1 .left
 
 hours-cause-requires : tie.Need-hours-cause-requires
