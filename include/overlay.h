@@ -27,7 +27,7 @@
 #include <stdint.h>
 
 /* The version of this interface: another one where a declaration, a number or the order of cells is another, or one comes. */
-#define OVERLAY_VERSION 13
+#define OVERLAY_VERSION 14
 
 /* The largest plan: layers, rectangles, cells, a layer's margin in millimetres, the cells of its windows, and the bytes of the longest text, which is
  * proved. So much is enough for every plan. */
@@ -41,7 +41,7 @@ enum {
 };
 
 /* The stack that is enough for every call (measured). */
-enum { OVERLAY_STACK_BYTES = 393216 };
+enum { OVERLAY_STACK_BYTES = 262144 };
 
 /* Causes. Each call checks those that it tells in the order in which it names them; 13 is the report program's alone, and there the first. */
 enum overlay_cause {

@@ -112,6 +112,18 @@ static uint32_t timed_run(void)
                              OVERLAY_MOST_RECTS, table, OVERLAY_MOST_RECTS, work, OVERLAY_MOST_RECTS, answer) ||
            answer[OVERLAY_RUN_ROWS] != 512;
 }
+/* Two layers of equal points: so many rows that their ground is counted by layers. */
+static uint32_t run_many(void)
+{
+    enum { ROWS = 512 * 512, RECTS = 2 * 512 };
+    static const uint32_t two[6] = {512, 512}, apart[6] = {400, 300};
+    static int32_t points[4 * RECTS], spare[2 * ROWS];
+    static uint32_t sweep[RECTS], rows[2 * ROWS];
+    uint64_t answer[OVERLAY_RUN_CELLS];
+    return overlay_make_order(2, two, apart, points, 4 * RECTS, sweep, RECTS) ||
+           overlay_run_all(2, two, apart, points, 4 * RECTS, sweep, RECTS, rows, 2 * ROWS, spare, 2 * ROWS, answer) ||
+           answer[OVERLAY_RUN_ROWS] != ROWS;
+}
 static uint32_t row_class(void)
 {
     uint32_t told;
@@ -153,9 +165,9 @@ static const struct {
              {"row", row},               {"row_common", row_common},           {"nearest", nearest},
              {"apart_pair", apart_pair}, {"row_hours", row_hours},             {"row_class", row_class},
              {"fresh_ticket", fresh_ticket}, {"round", serve_round},           {"timed_page", timed_page},
-             {"fetch_page", fetch_page}, {"run_all", run_all},                 {"timed_run", timed_run},
-             {"crossing_report", crossing_report}, {"write_text", write_text}, {"read_text", read_text},
-             {"cover_records", cover_records}};
+             {"fetch_page", fetch_page}, {"run_all", run_all},                 {"run_all of many rows", run_many},
+             {"timed_run", timed_run},   {"crossing_report", crossing_report}, {"write_text", write_text},
+             {"read_text", read_text},   {"cover_records", cover_records}};
 enum { CALLS = sizeof calls / sizeof *calls };
 
 /* A stack of our own, and how much of it each call has used: all below the caller's frame is filled with a byte, and the lowest that is another one

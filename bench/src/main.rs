@@ -4,9 +4,10 @@
 #[allow(dead_code)]
 mod ffi;
 mod hand;
+mod plans;
 
 use ffi::Library;
-use hand::Count;
+use hand::{Count, Scan};
 use overlay_tests::call::Plan;
 use overlay_tests::overlay::{Overlay, Run, Stop, Ticket};
 use overlay_tests::seeds::{grown_by, towers, Seeds};
@@ -16,31 +17,52 @@ use std::time::Instant;
 /// How many rounds of each are taken.
 const ROUNDS: u32 = 25;
 
+/// How often a whole run walks the plan.
+const PASSES: f64 = 2.0;
+
+/// The trials of a page of a trap.
+const TRAP_BUDGET: u32 = 10_000_000;
+
 /// How many calls take a few milliseconds.
-fn calls_of(call: &mut impl FnMut()) -> u32 {
+fn calls_of(call: &mut dyn FnMut()) -> u32 {
     let start = Instant::now();
     call();
     (0.005 / start.elapsed().as_secs_f64().max(1e-9)).clamp(1.0, 10_000.0) as u32
 }
 
 /// The time of a call in a round of so many, in microseconds.
-fn round(call: &mut impl FnMut(), calls: u32) -> f64 {
+fn round(call: &mut dyn FnMut(), calls: u32) -> f64 {
     let start = Instant::now();
     (0..calls).for_each(|_| call());
     start.elapsed().as_secs_f64() * 1e6 / calls as f64
 }
 
-/// The shortest round of each. They are taken in turn, so that what else the machine does meets both alike.
-fn both(mut ours: impl FnMut(), mut rust: impl FnMut()) -> (f64, f64) {
-    let calls = (calls_of(&mut ours), calls_of(&mut rust));
-    (0..ROUNDS).fold((f64::MAX, f64::MAX), |best, _| {
-        (best.0.min(round(&mut ours, calls.0)), best.1.min(round(&mut rust, calls.1)))
-    })
+/// The shortest round of each. They are taken in turn, so that what else the machine does meets all alike.
+fn turns<const N: usize>(mut calls: [&mut dyn FnMut(); N]) -> [f64; N] {
+    let (mut counts, mut best) = ([0; N], [f64::MAX; N]);
+    for (count, call) in counts.iter_mut().zip(&mut calls) {
+        *count = calls_of(call);
+    }
+    for _ in 0..ROUNDS {
+        for ((best, call), &count) in best.iter_mut().zip(&mut calls).zip(&counts) {
+            *best = best.min(round(call, count));
+        }
+    }
+    best
 }
 
-/// A line of the table: what was done, both times, and their ratio.
-fn tell(plan: &str, call: &str, ours: f64, rust: f64) {
-    println!("{plan:<22} {call:<10} {ours:>12.1} {rust:>12.1} {:>7.2}", ours / rust);
+/// A line of the table: what was done, our time, and each of Rust's with the ratio to it.
+fn tell(plan: &str, call: &str, ours: f64, rust: &[f64]) {
+    print!("{plan:<27} {call:<10} {ours:>12.1}");
+    for &time in rust {
+        print!(" {time:>12.1} {:>6.2}", ours / time);
+    }
+    println!();
+}
+
+/// What part of a time is left when another is taken away, in hundredths.
+fn share(whole: f64, rest: f64) -> f64 {
+    (100.0 * (1.0 - rest / whole)).max(0.0)
 }
 
 /// Pages from the fresh ticket to the end, by budgets of a given size, with a run record.
@@ -70,13 +92,17 @@ fn agree(plan: &Plan) -> (Vec<u32>, Run, Vec<u8>) {
     let (mut table, mut second) = (vec![0; 6_000_000], vec![0; 6_000_000]);
     let (mut work, mut other) = (vec![0; 2_000_000], vec![0; 2_000_000]);
     let run = Library.run(shape, cells, &order, &mut table, &mut work);
-    assert_eq!(run, hand::run(shape, cells, &order, &mut second, &mut other));
-    assert_eq!(run, hand::run_counting(Count::Tree, shape, cells, &order, &mut second, &mut other));
+    assert_eq!(run, hand::run(Scan::Singly, shape, cells, &order, &mut second, &mut other));
+    let by_tree = hand::run_counting(Count::Tree, Scan::ByFours, shape, cells, &order, &mut second, &mut other);
+    assert_eq!(run, by_tree);
     assert!(run.number == 0 && table == second);
     let (mut record, mut beside) = ([7], [0]);
     let fresh = Library.fresh(shape, cells, &order, &mut record).1;
     let page = Library.page(shape, cells, &order, &fresh, &mut record, 1_000, &mut table);
-    assert_eq!(page, hand::page(shape, cells, &order, &fresh, &mut beside, 1_000, &mut second));
+    for scan in [Scan::Singly, Scan::ByFours] {
+        beside = [0];
+        assert_eq!(page, hand::page(scan, shape, cells, &order, &fresh, &mut beside, 1_000, &mut second));
+    }
     assert!(table == second && record == beside);
     assert_eq!(ffi::nearest(shape, cells, AROUND), hand::nearest(shape, cells, AROUND));
 
@@ -101,85 +127,120 @@ fn bench(name: &str, plan: &Plan) {
     let (mut work, mut lent) = (vec![0; 2_000_000], vec![0; 2_000_000]);
     let name = format!("{name}, {} rows", run.rows);
 
-    let (ours, rust) = both(
-        || { black_box(Library.run(shape, cells, black_box(&order), &mut table, &mut work)); },
-        || { black_box(hand::run(shape, cells, black_box(&order), &mut second, &mut lent)); },
-    );
-    tell(&name, "run", ours, rust);
-    println!("{:<22} {:<10} {:>12.2} {:>12.2}", "", "ns a trial", ours * 500.0 / run.trials as f64, rust * 500.0 / run.trials as f64);
+    let mut third = vec![0; 6_000_000];
+    let mut more = vec![0; 2_000_000];
+    let [ours, singly, fours] = turns([
+        &mut || { black_box(Library.run(shape, cells, black_box(&order), &mut table, &mut work)); },
+        &mut || { black_box(hand::run(Scan::Singly, shape, cells, black_box(&order), &mut second, &mut lent)); },
+        &mut || { black_box(hand::run(Scan::ByFours, shape, cells, black_box(&order), &mut third, &mut more)); },
+    ]);
+    tell(&name, "run", ours, &[singly, fours]);
+    let each = |time: f64| time * 1_000.0 / PASSES / run.trials as f64;
+    println!("{:<27} {:<10} {:>12.2} {:>12.2} {:>6} {:>12.2}", "", "ns a trial", each(ours), each(singly), "", each(fours));
 
     let budget = 100_000;
     let fresh = Library.fresh(shape, cells, &order, &mut [0]).1;
-    let (ours, rust) = both(
-        || pages(|t, r| { let p = Library.page(shape, cells, &order, t, r, budget, &mut table); (p.stop, p.ticket) }, fresh),
-        || pages(|t, r| { let p = hand::page(shape, cells, &order, t, r, budget, &mut second); (p.stop, p.ticket) }, fresh),
-    );
-    tell(&name, "pages", ours, rust);
+    let [ours, singly, fours] = turns([
+        &mut || pages(|t, r| { let p = Library.page(shape, cells, &order, t, r, budget, &mut table); (p.stop, p.ticket) }, fresh),
+        &mut || pages(|t, r| { let p = hand::page(Scan::Singly, shape, cells, &order, t, r, budget, &mut second); (p.stop, p.ticket) }, fresh),
+        &mut || pages(|t, r| { let p = hand::page(Scan::ByFours, shape, cells, &order, t, r, budget, &mut third); (p.stop, p.ticket) }, fresh),
+    ]);
+    tell(&name, "pages", ours, &[singly, fours]);
 
-    let (ours, rust) = both(
-        || { black_box(Library.make_order(shape, black_box(cells), &mut order)); },
-        || { black_box(hand::make_order(shape, black_box(cells), &mut other)); },
-    );
-    tell(&name, "order", ours, rust);
+    let [ours, rust] = turns([
+        &mut || { black_box(Library.make_order(shape, black_box(cells), &mut order)); },
+        &mut || { black_box(hand::make_order(shape, black_box(cells), &mut other)); },
+    ]);
+    tell(&name, "order", ours, &[rust]);
 
-    let (ours, rust) = both(
-        || { black_box(ffi::order_cause(shape, black_box(cells), &order)); },
-        || { black_box(hand::cause(shape, black_box(cells), &order)); },
-    );
-    tell(&name, "checks", ours, rust);
+    let [ours, rust] = turns([
+        &mut || { black_box(ffi::order_cause(shape, black_box(cells), &order)); },
+        &mut || { black_box(hand::cause(shape, black_box(cells), &order)); },
+    ]);
+    tell(&name, "checks", ours, &[rust]);
 
-    let (ours, rust) = both(
-        || { black_box(ffi::nearest(shape, black_box(cells), AROUND)); },
-        || { black_box(hand::nearest(shape, black_box(cells), AROUND)); },
-    );
-    tell(&name, "nearest", ours, rust);
+    let [ours, rust] = turns([
+        &mut || { black_box(ffi::nearest(shape, black_box(cells), AROUND)); },
+        &mut || { black_box(hand::nearest(shape, black_box(cells), AROUND)); },
+    ]);
+    tell(&name, "nearest", ours, &[rust]);
 
     let (mut buffer, mut copy) = (vec![0; 200_000], vec![0; 200_000]);
-    let (ours, rust) = both(
-        || { black_box(Library.write(shape, black_box(cells), &mut buffer)); },
-        || { black_box(hand::write(shape, black_box(cells), &mut copy)); },
-    );
-    tell(&name, "write", ours, rust);
+    let [ours, rust] = turns([
+        &mut || { black_box(Library.write(shape, black_box(cells), &mut buffer)); },
+        &mut || { black_box(hand::write(shape, black_box(cells), &mut copy)); },
+    ]);
+    tell(&name, "write", ours, &[rust]);
 
     let text = &text[..];
     let (mut into, mut also) = (vec![0; 12_288], vec![0; 12_288]);
-    let (ours, rust) = both(
-        || { black_box(Library.read(black_box(text), &mut into)); },
-        || { black_box(hand::read(black_box(text), &mut also)); },
-    );
-    tell(&name, "read", ours, rust);
+    let [ours, rust] = turns([
+        &mut || { black_box(Library.read(black_box(text), &mut into)); },
+        &mut || { black_box(hand::read(black_box(text), &mut also)); },
+    ]);
+    tell(&name, "read", ours, &[rust]);
 }
 
-/// Times a whole run whose ground is counted: the library; its walk alone, which is two passes of the page call; and hand-written Rust that counts the ground
-/// by reaches, by a tree and not at all.
+/// Times a whole run whose ground is counted: the library; its walk alone, which is so many passes of the page call; hand-written Rust that counts the ground
+/// by reaches, by a tree and not at all; and what part of a run its ground takes in both.
 fn bench_ground(name: &str, plan: &Plan) {
     let (shape, cells) = (&plan.shape, &plan.cells[..]);
     let (order, run, _) = agree(plan);
-    let (mut table, mut second) = (vec![0; 6_000_000], vec![0; 6_000_000]);
-    let (mut work, mut lent) = (vec![0; 2_000_000], vec![0; 2_000_000]);
+    let mut tables = [(); 5].map(|_| vec![0; 6_000_000]);
+    let mut works = [(); 4].map(|_| vec![0; 2_000_000]);
     let fresh = Library.fresh(shape, cells, &order, &mut [0]).1;
-    let mut counting = |count| {
-        let call = || { black_box(hand::run_counting(count, shape, cells, black_box(&order), &mut second, &mut lent)); };
-        best(call)
+    let [t, u, v, w, x] = &mut tables;
+    let [a, b, c, d] = &mut works;
+    let counting = |count, table: &mut Vec<u32>, work: &mut Vec<i32>| {
+        black_box(hand::run_counting(count, Scan::ByFours, shape, cells, black_box(&order), table, work));
     };
-    let (reaches, tree, not) = (counting(Count::Reaches), counting(Count::Tree), counting(Count::Not));
-    let ours = best(|| { black_box(Library.run(shape, cells, black_box(&order), &mut table, &mut work)); });
-    let walk = 2.0 * best(|| { black_box(Library.page(shape, cells, &order, &fresh, &mut [0], u32::MAX, &mut table)); });
+    let [ours, pass, reaches, tree, not] = turns([
+        &mut || { black_box(Library.run(shape, cells, black_box(&order), t, a)); },
+        &mut || { black_box(Library.page(shape, cells, black_box(&order), &fresh, &mut [0], u32::MAX, u)); },
+        &mut || counting(Count::Reaches, v, b),
+        &mut || counting(Count::Tree, w, c),
+        &mut || counting(Count::Not, x, d),
+    ]);
+    let walk = PASSES * pass;
     println!(
-        "{:<32} {ours:>10.0} {walk:>10.0} {reaches:>10.0} {tree:>10.0} {not:>10.0} {:>7.2}",
+        "{:<36} {ours:>8.0} {walk:>10.0} {:>6.0} {reaches:>8.0} {tree:>9.0} {not:>8.0} {:>6.0} {:>6.2}",
         format!("{name}, {} rows", run.rows),
+        share(ours, walk),
+        share(reaches, not),
         ours / reaches
     );
 }
 
-/// The shortest round of a call.
-fn best(mut call: impl FnMut()) -> f64 {
-    let calls = calls_of(&mut call);
-    (0..ROUNDS).fold(f64::MAX, |best, _| best.min(round(&mut call, calls)))
+/// Times a page of a plan with too many trials to walk to the end.
+fn bench_trap(name: &str, plan: &Plan) {
+    let (shape, cells) = (&plan.shape, &plan.cells[..]);
+    let mut order = vec![0; cells.len() / 4];
+    assert_eq!(Library.make_order(shape, cells, &mut order), 0);
+    let fresh = Library.fresh(shape, cells, &order, &mut [0]).1;
+    let mut tables = [(); 3].map(|_| vec![0; 60_000]);
+    let [t, u, v] = &mut tables;
+    let page = Library.page(shape, cells, &order, &fresh, &mut [0], TRAP_BUDGET, t);
+    for scan in [Scan::Singly, Scan::ByFours] {
+        assert_eq!(page, hand::page(scan, shape, cells, &order, &fresh, &mut [0], TRAP_BUDGET, u));
+    }
+    let [ours, singly, fours] = turns([
+        &mut || { black_box(Library.page(shape, cells, black_box(&order), &fresh, &mut [0], TRAP_BUDGET, t)); },
+        &mut || { black_box(hand::page(Scan::Singly, shape, cells, black_box(&order), &fresh, &mut [0], TRAP_BUDGET, u)); },
+        &mut || { black_box(hand::page(Scan::ByFours, shape, cells, black_box(&order), &fresh, &mut [0], TRAP_BUDGET, v)); },
+    ]);
+    tell(&format!("{name}, {} rows", page.rows), "page", ours, &[singly, fours]);
+}
+
+/// The heads of the columns.
+fn heads(of: &str) {
+    println!(
+        "{of:<27} {:<10} {:>12} {:>12} {:>6} {:>12} {:>6}",
+        "call", "ours, us", "Rust, us", "ratio", "by fours, us", "ratio"
+    );
 }
 
 fn main() {
-    println!("{:<22} {:<10} {:>12} {:>12} {:>7}", "plan", "call", "ours, us", "Rust, us", "ratio");
+    heads("plan");
     let plans: [(&str, usize, u32, i32); 8] = [
         ("k 2, 64, sparse", 2, 64, 20_000),
         ("k 2, 512, sparse", 2, 512, 20_000),
@@ -194,11 +255,18 @@ fn main() {
     for (name, k, n, side) in plans {
         bench(name, &seeds.sparse(&vec![n; k], side));
     }
+    bench("k 3, 512, bands", &plans::bands(&mut Seeds(512), 3, 512, 10_000));
+
+    println!();
+    heads("a page of 10,000,000 trials");
+    for (name, n) in [("k 6, 24, trap", 24), ("k 6, 512, trap", 512)] {
+        bench_trap(name, &plans::trap(&mut Seeds(24), 6, n));
+    }
 
     println!();
     println!(
-        "{:<32} {:>10} {:>10} {:>10} {:>10} {:>10} {:>7}",
-        "run with its ground, us", "ours", "walk alone", "Rust", "with tree", "without", "ratio"
+        "{:<36} {:>8} {:>10} {:>6} {:>8} {:>9} {:>8} {:>6} {:>6}",
+        "run with its ground, us", "ours", "walk alone", "ground", "Rust", "with tree", "without", "ground", "ratio"
     );
     bench_ground("k 6, 512, towers", &towers(6, 512));
     // All rectangles hold one point, so that all combinations are rows.
@@ -212,6 +280,7 @@ fn main() {
         let plan = if side == 0 { seeds.plan_of(&vec![n; k], 6) } else { seeds.sparse(&vec![n; k], side) };
         bench_ground(name, &plan);
     }
+    bench_ground("k 3, 512, bands", &plans::bands(&mut Seeds(512), 3, 512, 10_000));
     let mut cells = vec![0; 12_288];
     let shape = Library.read(include_bytes!("../../examples/forecourt.plan"), &mut cells).shape;
     cells.truncate(4 * shape.sizes.iter().sum::<u32>() as usize);

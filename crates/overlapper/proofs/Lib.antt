@@ -1,3 +1,4 @@
+pub mod Ranking
 pub mod Ruling
 pub mod Steps
 pub mod Covering

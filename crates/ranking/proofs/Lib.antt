@@ -1,0 +1,13 @@
+pub mod Merging
+pub mod Halves
+pub mod Inserting
+pub mod Ranks
+pub mod Filled
+pub mod Agreeing
+pub mod Spreading
+pub mod Fronts
+pub mod Tallying
+pub mod Placing
+pub mod Scanning
+pub mod Arranging
+pub mod Ordering
