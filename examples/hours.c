@@ -54,9 +54,8 @@ static uint32_t read_plan(const uint8_t *text, size_t length)
     uint32_t cause = overlay_read_text(text, length, cells, OVERLAY_MOST_CELLS, &k, sizes, margins);
     if (cause != OVERLAY_CAUSE_NONE)
         return cause;
-    for (int layer = 0; layer < 6; layer++)
-        order_length += sizes[layer];
-    cells_length = 4 * order_length;
+    cells_length = overlay_count_cells(sizes);
+    order_length = overlay_count_rects(sizes);
     return overlay_make_order(k, sizes, margins, cells, cells_length, order, order_length);
 }
 
@@ -82,8 +81,8 @@ static uint32_t print_rows(const uint32_t *table, uint64_t rows)
 static uint32_t print_table(void)
 {
     uint32_t ticket[OVERLAY_TICKET_CELLS], table[PAGE_CELLS];
-    uint64_t answer[OVERLAY_PAGE_CELLS], record, rows = 0, probes = 0;
-    /* The fresh ticket takes no windows: both walks begin with the same probe. */
+    uint64_t answer[OVERLAY_PAGE_CELLS], record, rows = 0, trials = 0;
+    /* The fresh ticket takes no windows: both walks begin with the same trial. */
     uint32_t cause = overlay_fresh_ticket(k, sizes, margins, cells, cells_length, order, order_length, ticket, &record,
                                           1);
     if (cause != OVERLAY_CAUSE_NONE)
@@ -96,9 +95,9 @@ static uint32_t print_table(void)
         if (cause != OVERLAY_CAUSE_NONE)
             return cause;
         rows += answer[OVERLAY_PAGE_ROWS];
-        probes += answer[OVERLAY_PAGE_PROBES];
+        trials += answer[OVERLAY_PAGE_TRIALS];
     } while (answer[OVERLAY_PAGE_STOP] != OVERLAY_ENDED);
-    printf("TOTAL\t%" PRIu64 "\t%" PRIu64 "\n", rows, probes);
+    printf("TOTAL\t%" PRIu64 "\t%" PRIu64 "\n", rows, trials);
     return OVERLAY_CAUSE_NONE;
 }
 
@@ -118,8 +117,10 @@ int main(int count, char **words)
     uint32_t cause = read_plan(text, length);
     if (cause == OVERLAY_CAUSE_NONE)
         cause = print_table();
-    if (cause != OVERLAY_CAUSE_NONE)
+    if (cause != OVERLAY_CAUSE_NONE) {
         printf("REFUSED\t%" PRIu32 "\n", cause);
+        fprintf(stderr, "%s\n", overlay_cause_text(cause));
+    }
     if (fflush(stdout) != 0) {
         perror("standard output");
         return 1;

@@ -36,7 +36,7 @@ struct row {
 /* What all pages brought, and the ground of all rows counted once: whole square metres and a rest in square millimetres. */
 struct table {
     struct row rows[MOST_ROWS];
-    uint64_t count, probes, metres, rest;
+    uint64_t count, trials, metres, rest;
 };
 
 /* Reads a text and makes the order of its plan. */
@@ -47,10 +47,8 @@ static uint32_t read_plan(const uint8_t *text, size_t length, struct plan *plan)
     if (cause != OVERLAY_CAUSE_NONE)
         return cause;
     /* The calls want as many cells as the plan has, and an order of as many as it has rectangles. */
-    plan->order_length = 0;
-    for (int layer = 0; layer < 6; layer++)
-        plan->order_length += plan->sizes[layer];
-    plan->cells_length = 4 * plan->order_length;
+    plan->cells_length = overlay_count_cells(plan->sizes);
+    plan->order_length = overlay_count_rects(plan->sizes);
     return overlay_make_order(plan->k, plan->sizes, plan->margins, plan->cells, plan->cells_length,
                               plan->order, plan->order_length);
 }
@@ -93,7 +91,7 @@ static uint32_t fetch_table(const struct plan *plan, struct table *table)
         cause = take_rows(plan, page, answer[OVERLAY_PAGE_ROWS], table);
         if (cause != OVERLAY_CAUSE_NONE)
             return cause;
-        table->probes += answer[OVERLAY_PAGE_PROBES];
+        table->trials += answer[OVERLAY_PAGE_TRIALS];
     } while (answer[OVERLAY_PAGE_STOP] != OVERLAY_ENDED);
     return OVERLAY_CAUSE_NONE;
 }
@@ -122,7 +120,7 @@ static void print_table(uint32_t k, const struct table *table)
         printf("\t%" PRIu64 "\t%c\n", row->answer[OVERLAY_ROW_AREA], (char)row->common[OVERLAY_COMMON_KIND]);
     }
     uint64_t hundredths = (table->rest + 5000) / 10000;
-    printf("TOTAL\t%" PRIu64 "\t%" PRIu64 "\t%" PRIu64 ".%02" PRIu64 "\n", table->count, table->probes,
+    printf("TOTAL\t%" PRIu64 "\t%" PRIu64 "\t%" PRIu64 ".%02" PRIu64 "\n", table->count, table->trials,
            table->metres + hundredths / 100, hundredths % 100);
 }
 
@@ -144,10 +142,12 @@ int main(void)
     if (cause == OVERLAY_CAUSE_NONE)
         cause = count_ground(&plan, &table);
     /* Nothing is printed before it is known that the whole table fits. */
-    if (cause == OVERLAY_CAUSE_NONE)
+    if (cause == OVERLAY_CAUSE_NONE) {
         print_table(plan.k, &table);
-    else
+    } else {
         printf("REFUSED\t%" PRIu32 "\n", cause);
+        fprintf(stderr, "%s\n", overlay_cause_text(cause));
+    }
     if (fflush(stdout) != 0) {
         perror("standard output");
         return 1;

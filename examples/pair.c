@@ -31,7 +31,7 @@ int main(int count, char **words)
     static int32_t cells[OVERLAY_MOST_CELLS];
     uint32_t k, sizes[6], margins[6], places[MOST_PLACES];
     uint64_t answer[OVERLAY_PAIR_CELLS];
-    size_t given = 0, cells_length = 0;
+    size_t given = 0;
 
     for (int i = 1; i < count; i++) {
         if (given == MOST_PLACES || !read_place(words[i], &places[given++])) {
@@ -45,18 +45,16 @@ int main(int count, char **words)
         return 1;
     }
     uint32_t cause = overlay_read_text(text, length, cells, OVERLAY_MOST_CELLS, &k, sizes, margins);
-    if (cause == OVERLAY_CAUSE_NONE) {
-        /* The call wants as many cells as the plan has. */
-        for (int layer = 0; layer < 6; layer++)
-            cells_length += 4 * (size_t)sizes[layer];
-        cause = overlay_apart_pair(k, sizes, margins, cells, cells_length, places, given, answer);
-    }
-    if (cause != OVERLAY_CAUSE_NONE)
+    if (cause == OVERLAY_CAUSE_NONE)
+        cause = overlay_apart_pair(k, sizes, margins, cells, overlay_count_cells(sizes), places, given, answer);
+    if (cause != OVERLAY_CAUSE_NONE) {
         printf("REFUSED\t%" PRIu32 "\n", cause);
-    else if (answer[OVERLAY_PAIR_LOWER] == 0)
+        fprintf(stderr, "%s\n", overlay_cause_text(cause));
+    } else if (answer[OVERLAY_PAIR_LOWER] == 0) {
         printf("SHARE\n");
-    else
+    } else {
         printf("APART\t%" PRIu64 "\t%" PRIu64 "\n", answer[OVERLAY_PAIR_LOWER], answer[OVERLAY_PAIR_HIGHER]);
+    }
     if (fflush(stdout) != 0) {
         perror("standard output");
         return 1;

@@ -17,9 +17,6 @@ use std::time::Instant;
 /// How many rounds of each are taken.
 const ROUNDS: u32 = 25;
 
-/// How often a whole run walks the plan.
-const PASSES: f64 = 2.0;
-
 /// The trials of a page of a trap.
 const TRAP_BUDGET: u32 = 10_000_000;
 
@@ -135,7 +132,7 @@ fn bench(name: &str, plan: &Plan) {
         &mut || { black_box(hand::run(Scan::ByFours, shape, cells, black_box(&order), &mut third, &mut more)); },
     ]);
     tell(&name, "run", ours, &[singly, fours]);
-    let each = |time: f64| time * 1_000.0 / PASSES / run.trials as f64;
+    let each = |time: f64| time * 1_000.0 / run.trials as f64;
     println!("{:<27} {:<10} {:>12.2} {:>12.2} {:>6} {:>12.2}", "", "ns a trial", each(ours), each(singly), "", each(fours));
 
     let budget = 100_000;
@@ -194,14 +191,13 @@ fn bench_ground(name: &str, plan: &Plan) {
     let counting = |count, table: &mut Vec<u32>, work: &mut Vec<i32>| {
         black_box(hand::run_counting(count, Scan::ByFours, shape, cells, black_box(&order), table, work));
     };
-    let [ours, pass, reaches, tree, not] = turns([
+    let [ours, walk, reaches, tree, not] = turns([
         &mut || { black_box(Library.run(shape, cells, black_box(&order), t, a)); },
         &mut || { black_box(Library.page(shape, cells, black_box(&order), &fresh, &mut [0], u32::MAX, u)); },
         &mut || counting(Count::Reaches, v, b),
         &mut || counting(Count::Tree, w, c),
         &mut || counting(Count::Not, x, d),
     ]);
-    let walk = PASSES * pass;
     println!(
         "{:<36} {ours:>8.0} {walk:>10.0} {:>6.0} {reaches:>8.0} {tree:>9.0} {not:>8.0} {:>6.0} {:>6.2}",
         format!("{name}, {} rows", run.rows),

@@ -1,8 +1,14 @@
-//! The three declarations of the C interface say the same: the header, the library's exported functions, and the wrapper's extern block.
+//! The declarations of the C interface say the same: the header, the library's exported functions, and the extern block of the Rust crate. Header, manual, Rust
+//! crate and Python module tell the causes in the same words, and have the same version and limits.
 
 const HEADER: &str = include_str!("../../include/overlay.h");
 const LIBRARY: &str = include_str!("../../crates/capi/src/lib.rt");
-const WRAPPER: &str = include_str!("../src/bin/library/ffi.rs");
+const WRAPPER: &str = include_str!("../../rust/src/sys.rs");
+const CAUSES: &str = include_str!("../../rust/src/cause.rs");
+const CRATE: &str = include_str!("../../rust/src/lib.rs");
+const MODULE: &str = include_str!("../../python/overlay.py");
+const MANUAL: &str = include_str!("../../docs/MANUAL.md");
+const INTEGRATORS: &str = include_str!("../../docs/INTEGRATORS.md");
 
 /// A function as a list: its name, each parameter as `name: type`, and the type that it returns. Types are spelled as in Rust; an
 /// array behind a pointer has its length, as in `*const [u32; 6]`.
@@ -49,7 +55,7 @@ fn c_parameter(text: &str) -> String {
     format!("{name}: {word}")
 }
 
-/// The prototypes of a header: what is left without comments, directives, enums and the guard for C++.
+/// The prototypes of a header: what is marked as one in what is left without comments and directives.
 fn in_header(header: &str) -> Vec<Function> {
     let mut code = String::new();
     for (i, part) in header.split("/*").enumerate() {
@@ -58,13 +64,12 @@ fn in_header(header: &str) -> Vec<Function> {
     let lines =
         code.lines().filter(|line| !line.starts_with('#') && !matches!(*line, "extern \"C\" {" | "}"));
     let code = lines.collect::<Vec<_>>().join(" ");
-    let statements = code.split(';').map(str::trim);
-    let prototypes = statements.filter(|text| !text.is_empty() && !text.starts_with("enum "));
+    let prototypes = code.split(';').filter_map(|text| text.trim().strip_prefix("OVERLAY_CHECKED "));
     let read = |text: &str| {
         let (result, rest) = text.split_once(' ').expect("a type and a function");
         let (name, list) = rest.strip_suffix(')').and_then(|rest| rest.split_once('(')).expect("parameters");
         let mut function = vec![name.to_string()];
-        function.extend(parts(list).map(c_parameter));
+        function.extend(parts(list).filter(|part| *part != "void").map(c_parameter));
         function.push(scalar(result).to_string());
         function
     };
@@ -84,9 +89,10 @@ fn in_code(text: &str, mark: &str, end: &[char], parameter: fn(&str) -> Vec<Stri
     sorted(text.split(mark).skip(1).map(read).collect())
 }
 
-/// A parameter of Rattle as the C interface passes it: a slice as a pointer and a length, a reference as a pointer.
+/// A parameter of Rattle as the C interface passes it: a slice as a pointer and a length, a reference as a pointer. A counter is a run record there.
 fn rattle_parameter(text: &str) -> Vec<String> {
     let (name, kind) = text.split_once(": ").expect("a name and a type");
+    let name = name.replace("counter", "record");
     let Some(kind) = kind.strip_prefix('&') else { return vec![text.to_string()] };
     let (pointer, kind) = kind.strip_prefix("mut ").map_or(("*const", kind), |rest| ("*mut", rest));
     match kind.strip_prefix('[').and_then(|kind| kind.strip_suffix(']')) {
@@ -132,7 +138,7 @@ fn agree(header: &str, library: &str, wrapper: &str) -> bool {
 #[test]
 fn header_library_and_wrapper_agree() {
     let functions = in_header(HEADER);
-    assert_eq!(functions.len(), 19);
+    assert_eq!(functions.len(), 21);
     assert_eq!(functions, in_library(LIBRARY));
     assert_eq!(plain(&functions), in_wrapper(WRAPPER));
 }
@@ -147,6 +153,8 @@ fn changed(text: &str, old: &str, new: &str) -> String {
 fn every_change_is_noticed() {
     let header = [
         ("uint32_t overlay_row(", "uint32_t overlay_rows("),
+        ("uint32_t overlay_version_14(", "uint32_t overlay_version_13("),
+        ("OVERLAY_CHECKED uint32_t overlay_row(", "uint32_t overlay_row("),
         ("uint32_t overlay_row(", "uint64_t overlay_row("),
         ("const int32_t *cells", "int32_t *cells"),
         ("const int32_t *cells", "const uint32_t *cells"),
@@ -162,9 +170,9 @@ fn every_change_is_noticed() {
         ("uint64_t answer[6]", "uint32_t answer[6]"),
         (" uint32_t budget,", ""),
         ("uint32_t ticket[12]", "uint32_t ticket[10]"),
-        ("uint64_t *counter, size_t counter_length", "uint64_t *counter"),
-        ("uint64_t *counter", "uint32_t *counter"),
-        ("uint64_t *counter", "const uint64_t *counter"),
+        ("uint64_t *record, size_t record_length", "uint64_t *record"),
+        ("uint64_t *record", "uint32_t *record"),
+        ("uint64_t *record", "const uint64_t *record"),
         ("int32_t *work, size_t work_length", "int32_t *work"),
         ("int32_t *work", "uint32_t *work"),
         ("int32_t answer[5]", "int32_t answer[4]"),
@@ -182,6 +190,7 @@ fn every_change_is_noticed() {
     ];
     let library = [
         ("fn overlay_row(", "fn overlay_rows("),
+        ("fn overlay_version_14(", "fn overlay_version_13("),
         ("cells: &[i32]", "cells: &mut [i32]"),
         ("cells: &[i32]", "cells: &[i64]"),
         ("sizes: &[u32; 6]", "sizes: &[u32]"),
@@ -204,11 +213,12 @@ fn every_change_is_noticed() {
     ];
     let wrapper = [
         ("fn overlay_row(", "fn overlay_rows("),
+        ("fn overlay_version_14(", "fn overlay_version_13("),
         ("cells: *const i32", "cells: *mut i32"),
         ("cells: *const i32", "cells: *const u32"),
         ("        budget: u32,\n", ""),
-        ("        counter_length: usize,\n", ""),
-        ("counter: *mut u64", "counter: *mut u32"),
+        ("        record_length: usize,\n", ""),
+        ("record: *mut u64", "record: *mut u32"),
         ("        work_length: usize,\n", ""),
         ("work: *mut i32", "work: *mut u32"),
         ("answer: *mut i32", "answer: *mut u64"),
@@ -229,5 +239,104 @@ fn every_change_is_noticed() {
     }
     for (old, new) in wrapper {
         assert!(!agree(HEADER, LIBRARY, &changed(WRAPPER, old, new)), "wrapper: {old:?} as {new:?}");
+    }
+}
+
+/// The words of each cause, from 1 on, by whoever tells them.
+type Words = Vec<String>;
+
+/// Each text between two marks, one after the other.
+fn all_between(text: &str, open: &str, close: &str) -> Words {
+    text.split(open).skip(1).map(|part| part.split(close).next().expect("a part").to_string()).collect()
+}
+
+/// The comments of the header's causes, without that of 0.
+fn in_enum(header: &str) -> Words {
+    all_between(between(header, "enum overlay_cause {", "};"), "/* ", " */").split_off(1)
+}
+
+/// What the header's function returns for each, without 0 and other numbers.
+fn in_function(header: &str) -> Words {
+    let body = between(header, "*overlay_cause_text(uint32_t number)", "default:");
+    all_between(body, "return \"", "\";").split_off(1)
+}
+
+/// A manual's table of numbers, with which it ends, third column, spelled without its signs that are no plain characters.
+fn in_manual(manual: &str) -> Words {
+    let table = manual.split("## Numbers\n").nth(1).expect("the numbers");
+    let rows = table.lines().filter(|line| line.starts_with("| ") && line.as_bytes()[2].is_ascii_digit());
+    let cause = |line: &str| line.split(" | ").nth(2).expect("a cause").to_string();
+    rows.map(|line| cause(line).replace('\u{2212}', "-").replace('\u{2264}', "<=")).skip(1).collect()
+}
+
+/// What the Rust crate and the Python module print for each.
+fn in_crate(text: &str) -> Words {
+    all_between(between(text, "fn text(self)", "impl fmt::Display"), "=> \"", "\",")
+}
+fn in_module(text: &str) -> Words {
+    all_between(between(text, "_TEXTS = {", "\n}"), ": \"", "\",")
+}
+
+#[test]
+fn causes_are_told_in_the_same_words() {
+    let words = in_enum(HEADER);
+    assert_eq!(words.len(), 24);
+    assert_eq!(words, in_function(HEADER));
+    assert_eq!(words, in_manual(MANUAL));
+    assert_eq!(words, in_manual(INTEGRATORS));
+    assert_eq!(words, in_crate(CAUSES));
+    assert_eq!(words, in_module(MODULE));
+}
+
+/// A name in capitals, its words parted: `FewLayers` and `FEW_LAYERS` are `FEW_LAYERS`.
+fn capitals(name: &str) -> String {
+    let mut told = String::new();
+    for (i, c) in name.chars().enumerate() {
+        if i > 0 && c.is_uppercase() && name.contains(char::is_lowercase) {
+            told.push('_');
+        }
+        told.push(c.to_ascii_uppercase());
+    }
+    told
+}
+
+/// The names and numbers of lines such as `NAME = 7,`, each behind a prefix.
+fn numbered(text: &str, prefix: &str) -> Vec<(String, u32)> {
+    let read = |line: &str| {
+        let (name, rest) = line.trim().strip_prefix(prefix)?.split_once(" = ")?;
+        let digits: String = rest.chars().take_while(char::is_ascii_digit).collect();
+        Some((capitals(name), digits.parse().ok()?))
+    };
+    text.lines().filter_map(read).collect()
+}
+
+#[test]
+fn causes_have_the_same_names() {
+    let header = numbered(between(HEADER, "enum overlay_cause {", "};"), "OVERLAY_CAUSE_").split_off(1);
+    assert_eq!(header.iter().map(|named| named.1).collect::<Vec<_>>(), (1..25).collect::<Vec<_>>());
+    assert_eq!(header, numbered(between(CAUSES, "pub enum Cause {", "\n}"), ""));
+    assert_eq!(header, numbered(between(MODULE, "class Cause(", "@property"), ""));
+}
+
+/// The digits of a number.
+fn digits(text: &str) -> String {
+    text.chars().filter(char::is_ascii_digit).collect()
+}
+
+#[test]
+fn versions_and_limits_agree() {
+    let version = between(HEADER, "#define OVERLAY_VERSION ", "\n");
+    for name in [format!("overlay_version_{version}"), "overlay_version".to_string()] {
+        let contract = between(LIBRARY, &format!("fn {name}() -> u32\n"), "{\n");
+        assert_eq!(digits(contract), version, "{name}");
+    }
+    assert_eq!(version, between(CRATE, "pub const VERSION: u32 = ", ";"));
+    assert_eq!(version, between(MODULE, "\nVERSION = ", "\n"));
+    for name in ["LAYERS", "SIZE", "COORDINATE", "MARGIN", "ROWS", "CLIENTS", "TEXT"] {
+        let stated = between(HEADER, &format!("OVERLAY_MOST_{name} = "), "\n");
+        let number = stated.split([',', ' ']).next().expect("a number");
+        let constant = between(CRATE, &format!("pub const MOST_{name}: "), ";");
+        assert_eq!(number, digits(constant.split(" = ").nth(1).expect("a number")), "{name}");
+        assert_eq!(number, digits(between(MODULE, &format!("\nMOST_{name} = "), "\n")), "{name}");
     }
 }

@@ -68,6 +68,23 @@ ghost use Rattle.text.specs.Writer.{writeCause, writeAnswer, lengthOf, bufferAf
 ghost use Rattle.cells.specs.Cells.{shapeOf, ticketCells, ticketIn, pageCells, ticketAfter, runCells};
 ghost use Rattle.cells.specs.Cells.{rowCells, commonCells, acrossIn, upwardIn, pairCells, hoursCells};
 
+// The version of this interface. A header or a binding of version 14 refers to it by its name, so that a program links with the library that it was
+// written for.
+#[no_mangle]
+pub extern "C" fn overlay_version_14() -> u32
+    ensures { λ r. ⌜ r ≡ 14 ⌝ }
+{
+    14
+}
+
+// The version of this interface, asked for by a program that takes any.
+#[no_mangle]
+pub extern "C" fn overlay_version() -> u32
+    ensures { λ r. ⌜ r ≡ 14 ⌝ }
+{
+    14
+}
+
 // The first of the causes 1 2 17 3 4 that applies to a plan.
 #[no_mangle]
 pub extern "C" fn overlay_plan_cause(

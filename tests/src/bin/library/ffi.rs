@@ -1,5 +1,6 @@
-//! The library under test through its C interface (include/overlay.h), behind safe functions.
+//! The library under test through the crate `overlay`, whose calls are those of its C interface (include/overlay.h).
 
+use overlay::calls::{self, Lent as Handed, Turn};
 use overlay_tests::crossings::{ClassTold, Crossings, Report};
 use overlay_tests::hours::{self, HoursTold, Timed};
 use overlay_tests::nearest::{Near, NearestTold};
@@ -8,234 +9,6 @@ use overlay_tests::overlay::{
 };
 use overlay_tests::rounds::{Lent, RoundTold};
 use overlay_tests::surveys::{Covered, Survey};
-
-#[link(name = "capi", kind = "static")]
-extern "C" {
-    fn overlay_plan_cause(
-        k: u32,
-        sizes: *const u32,
-        margins: *const u32,
-        cells: *const i32,
-        cells_length: usize,
-    ) -> u32;
-    fn overlay_make_order(
-        k: u32,
-        sizes: *const u32,
-        margins: *const u32,
-        cells: *const i32,
-        cells_length: usize,
-        order: *mut u32,
-        order_length: usize,
-    ) -> u32;
-    fn overlay_order_cause(
-        k: u32,
-        sizes: *const u32,
-        margins: *const u32,
-        cells: *const i32,
-        cells_length: usize,
-        order: *const u32,
-        order_length: usize,
-    ) -> u32;
-    fn overlay_row(
-        k: u32,
-        sizes: *const u32,
-        margins: *const u32,
-        cells: *const i32,
-        cells_length: usize,
-        places: *const u32,
-        places_length: usize,
-        answer: *mut u64,
-    ) -> u32;
-    fn overlay_row_common(
-        k: u32,
-        sizes: *const u32,
-        margins: *const u32,
-        cells: *const i32,
-        cells_length: usize,
-        places: *const u32,
-        places_length: usize,
-        answer: *mut i32,
-    ) -> u32;
-    fn overlay_nearest(
-        k: u32,
-        sizes: *const u32,
-        margins: *const u32,
-        cells: *const i32,
-        cells_length: usize,
-        around: *const i32,
-        answer: *mut u64,
-    ) -> u32;
-    fn overlay_apart_pair(
-        k: u32,
-        sizes: *const u32,
-        margins: *const u32,
-        cells: *const i32,
-        cells_length: usize,
-        places: *const u32,
-        places_length: usize,
-        answer: *mut u64,
-    ) -> u32;
-    fn overlay_fresh_ticket(
-        k: u32,
-        sizes: *const u32,
-        margins: *const u32,
-        cells: *const i32,
-        cells_length: usize,
-        order: *const u32,
-        order_length: usize,
-        ticket: *mut u32,
-        counter: *mut u64,
-        counter_length: usize,
-    ) -> u32;
-    fn overlay_fetch_page(
-        k: u32,
-        sizes: *const u32,
-        margins: *const u32,
-        cells: *const i32,
-        cells_length: usize,
-        order: *const u32,
-        order_length: usize,
-        ticket: *mut u32,
-        counter: *mut u64,
-        counter_length: usize,
-        budget: u32,
-        table: *mut u32,
-        table_length: usize,
-        answer: *mut u64,
-    ) -> u32;
-    fn overlay_timed_page(
-        k: u32,
-        sizes: *const u32,
-        margins: *const u32,
-        cells: *const i32,
-        cells_length: usize,
-        hours: *const u32,
-        hours_length: usize,
-        order: *const u32,
-        order_length: usize,
-        ticket: *mut u32,
-        counter: *mut u64,
-        counter_length: usize,
-        budget: u32,
-        table: *mut u32,
-        table_length: usize,
-        answer: *mut u64,
-    ) -> u32;
-    fn overlay_timed_run(
-        k: u32,
-        sizes: *const u32,
-        margins: *const u32,
-        cells: *const i32,
-        cells_length: usize,
-        hours: *const u32,
-        hours_length: usize,
-        order: *const u32,
-        order_length: usize,
-        table: *mut u32,
-        table_length: usize,
-        work: *mut i32,
-        work_length: usize,
-        answer: *mut u64,
-    ) -> u32;
-    fn overlay_row_hours(
-        k: u32,
-        sizes: *const u32,
-        margins: *const u32,
-        cells: *const i32,
-        cells_length: usize,
-        hours: *const u32,
-        hours_length: usize,
-        places: *const u32,
-        places_length: usize,
-        answer: *mut u32,
-    ) -> u32;
-    fn overlay_round(
-        k: u32,
-        sizes: *const u32,
-        margins: *const u32,
-        cells: *const i32,
-        cells_length: usize,
-        order: *const u32,
-        order_length: usize,
-        m: u32,
-        first: u32,
-        budget: u64,
-        tickets: *mut u32,
-        counters: *mut u64,
-        counters_length: usize,
-        table: *mut u32,
-        table_length: usize,
-        next: *mut u32,
-        answer: *mut u64,
-    ) -> u32;
-    fn overlay_run_all(
-        k: u32,
-        sizes: *const u32,
-        margins: *const u32,
-        cells: *const i32,
-        cells_length: usize,
-        order: *const u32,
-        order_length: usize,
-        table: *mut u32,
-        table_length: usize,
-        work: *mut i32,
-        work_length: usize,
-        answer: *mut u64,
-    ) -> u32;
-    fn overlay_row_class(
-        k: u32,
-        sizes: *const u32,
-        margins: *const u32,
-        cells: *const i32,
-        cells_length: usize,
-        places: *const u32,
-        places_length: usize,
-        told: *mut u32,
-    ) -> u32;
-    fn overlay_crossing_report(
-        k: u32,
-        sizes: *const u32,
-        margins: *const u32,
-        cells: *const i32,
-        cells_length: usize,
-        order: *const u32,
-        order_length: usize,
-        table: *mut u32,
-        table_length: usize,
-        work: *mut i32,
-        work_length: usize,
-        answer: *mut u64,
-        counts: *mut u32,
-    ) -> u32;
-    fn overlay_read_text(
-        text: *const u8,
-        text_length: usize,
-        cells: *mut i32,
-        cells_length: usize,
-        k: *mut u32,
-        sizes: *mut u32,
-        margins: *mut u32,
-    ) -> u32;
-    fn overlay_write_text(
-        k: u32,
-        sizes: *const u32,
-        margins: *const u32,
-        cells: *const i32,
-        cells_length: usize,
-        text: *mut u8,
-        text_length: usize,
-        size: *mut usize,
-    ) -> u32;
-    fn overlay_cover_records(
-        kinds: *const u32,
-        stops: *const f64,
-        corners: *const f64,
-        corners_length: usize,
-        cells: *mut i32,
-        cells_length: usize,
-        kept: *mut usize,
-    ) -> u32;
-}
 
 /// A ticket's cells.
 pub type Cells = [u32; 12];
@@ -282,45 +55,32 @@ fn stop_of(number: u32, code: u64) -> Stop {
     }
 }
 
+/// A plan as the calls take it.
+fn handed<'a>(shape: &'a Shape, cells: &'a [i32]) -> Handed<'a> {
+    Handed { k: shape.k, sizes: &shape.sizes, margins: &shape.margins, cells }
+}
+
+/// A page's number, answer and ticket.
+fn page_of(number: u32, answer: [u64; 5], ticket: &Cells) -> Page {
+    let [code, rows, trials, metres, rest] = answer;
+    let (stop, area) = (stop_of(number, code), Total { metres, rest });
+    Page { stop, rows: small(rows), trials: small(trials), area, ticket: ticket_in(ticket) }
+}
+
 /// The first of the causes 1, 2, 17, 3 and 4 that applies to a plan.
 pub fn plan_cause(shape: &Shape, cells: &[i32]) -> u32 {
-    // SAFETY: every pointer comes from a reference, with its length.
-    unsafe {
-        overlay_plan_cause(shape.k, shape.sizes.as_ptr(), shape.margins.as_ptr(), cells.as_ptr(), cells.len())
-    }
+    calls::plan_cause(handed(shape, cells))
 }
 
 /// The first of the causes 1, 2, 17, 3, 4 and 5 that applies to a plan and an order.
 pub fn order_cause(shape: &Shape, cells: &[i32], order: &[u32]) -> u32 {
-    // SAFETY: every pointer comes from a reference, with its length.
-    unsafe {
-        overlay_order_cause(
-            shape.k,
-            shape.sizes.as_ptr(),
-            shape.margins.as_ptr(),
-            cells.as_ptr(),
-            cells.len(),
-            order.as_ptr(),
-            order.len(),
-        )
-    }
+    calls::order_cause(handed(shape, cells), order)
 }
 
 /// What lies nearest to a box in each layer.
 pub fn nearest(shape: &Shape, cells: &[i32], around: [i32; 4]) -> NearestTold {
     let mut answer = [UNWRITTEN; 18];
-    // SAFETY: every pointer comes from a reference, with its length; the one written to is exclusive.
-    let number = unsafe {
-        overlay_nearest(
-            shape.k,
-            shape.sizes.as_ptr(),
-            shape.margins.as_ptr(),
-            cells.as_ptr(),
-            cells.len(),
-            around.as_ptr(),
-            answer.as_mut_ptr(),
-        )
-    };
+    let number = calls::nearest(handed(shape, cells), &around, &mut answer);
     let mut layers = [Near::default(); 6];
     for (entry, cells) in layers.iter_mut().zip(answer.chunks(3)) {
         assert!(cells[0] <= 1, "the flag of an entry is {}", cells[0]);
@@ -339,82 +99,25 @@ pub fn fetch_page(
     table: &mut [u32],
 ) -> (u32, [u64; 5]) {
     let mut answer = [UNWRITTEN; 5];
-    // SAFETY: every pointer comes from a reference, with its length; those written to are exclusive.
-    let number = unsafe {
-        overlay_fetch_page(
-            shape.k,
-            shape.sizes.as_ptr(),
-            shape.margins.as_ptr(),
-            cells.as_ptr(),
-            cells.len(),
-            order.as_ptr(),
-            order.len(),
-            ticket.as_mut_ptr(),
-            record.as_mut_ptr(),
-            record.len(),
-            budget,
-            table.as_mut_ptr(),
-            table.len(),
-            answer.as_mut_ptr(),
-        )
-    };
-    (number, answer)
+    let plan = handed(shape, cells);
+    (calls::fetch_page(plan, order, ticket, record, budget, table, &mut answer), answer)
 }
 
 /// The timed page call on a ticket's cells, with all else from what is lent: the number and the answer.
 pub fn timed_page(lent: &mut hours::Lent, ticket: &mut Cells) -> (u32, [u64; 5]) {
     let mut answer = [UNWRITTEN; 5];
     let hours::Lent { plan, hours, order, record, budget, table, .. } = lent;
-    // SAFETY: every pointer comes from a reference, with its length; those written to are exclusive.
-    let number = unsafe {
-        overlay_timed_page(
-            plan.shape.k,
-            plan.shape.sizes.as_ptr(),
-            plan.shape.margins.as_ptr(),
-            plan.cells.as_ptr(),
-            plan.cells.len(),
-            hours.as_ptr(),
-            hours.len(),
-            order.as_ptr(),
-            order.len(),
-            ticket.as_mut_ptr(),
-            record.as_mut_ptr(),
-            record.len(),
-            *budget,
-            table.as_mut_ptr(),
-            table.len(),
-            answer.as_mut_ptr(),
-        )
-    };
-    (number, answer)
+    let plan = handed(&plan.shape, &plan.cells);
+    (calls::timed_page(plan, hours, order, ticket, record, *budget, table, &mut answer), answer)
 }
 
 /// The round call on sixteen tickets' cells: the number, `next`, and the cells of the answer.
 pub fn round_in_cells(lent: &mut Lent, tickets: &mut [u32; 192]) -> (u32, u32, [u64; 80]) {
     let (mut next, mut answer) = (UNWRITTEN as u32, [UNWRITTEN; 80]);
     let Lent { plan, order, m, first, budget, records, table, .. } = lent;
-    // SAFETY: every pointer comes from a reference, with its length; those written to are exclusive.
-    let number = unsafe {
-        overlay_round(
-            plan.shape.k,
-            plan.shape.sizes.as_ptr(),
-            plan.shape.margins.as_ptr(),
-            plan.cells.as_ptr(),
-            plan.cells.len(),
-            order.as_ptr(),
-            order.len(),
-            *m,
-            *first,
-            *budget,
-            tickets.as_mut_ptr(),
-            records.as_mut_ptr(),
-            records.len(),
-            table.as_mut_ptr(),
-            table.len(),
-            &mut next,
-            answer.as_mut_ptr(),
-        )
-    };
+    let (plan, turn) =
+        (handed(&plan.shape, &plan.cells), Turn { clients: *m, first: *first, budget: *budget });
+    let number = calls::round(plan, order, turn, tickets, records, table, &mut next, &mut answer);
     (number, next, answer)
 }
 
@@ -426,10 +129,8 @@ pub fn round(lent: &mut Lent) -> RoundTold {
     }
     let (number, next, answer) = round_in_cells(lent, &mut tickets);
     let page = |at: usize| {
-        let [code, rows, trials, metres, rest] = answer[5 * at..5 * at + 5].try_into().expect("five cells");
-        let area = Total { metres, rest };
-        let ticket = ticket_in(tickets[12 * at..12 * at + 12].try_into().expect("twelve cells"));
-        Page { stop: stop_of(number, code), rows: small(rows), trials: small(trials), area, ticket }
+        let answer = answer[5 * at..5 * at + 5].try_into().expect("five cells");
+        page_of(number, answer, tickets[12 * at..12 * at + 12].try_into().expect("twelve cells"))
     };
     RoundTold { number, next, pages: std::array::from_fn(page) }
 }
@@ -437,18 +138,7 @@ pub fn round(lent: &mut Lent) -> RoundTold {
 /// Puts the covers of the kept records of a survey into the cells.
 pub fn cover_records(survey: &Survey, cells: &mut [i32]) -> Covered {
     let mut kept = UNWRITTEN as usize;
-    // SAFETY: every pointer comes from a reference, with its length; those written to are exclusive.
-    let number = unsafe {
-        overlay_cover_records(
-            survey.kinds.as_ptr(),
-            survey.stops.as_ptr(),
-            survey.corners.as_ptr(),
-            survey.corners.len(),
-            cells.as_mut_ptr(),
-            cells.len(),
-            &mut kept,
-        )
-    };
+    let number = calls::cover_records(&survey.kinds, &survey.stops, &survey.corners, cells, &mut kept);
     Covered { number, kept }
 }
 
@@ -457,53 +147,18 @@ pub struct Library;
 
 impl Overlay for Library {
     fn make_order(&self, shape: &Shape, cells: &[i32], order: &mut [u32]) -> u32 {
-        // SAFETY: every pointer comes from a reference, with its length; the one written to is exclusive.
-        unsafe {
-            overlay_make_order(
-                shape.k,
-                shape.sizes.as_ptr(),
-                shape.margins.as_ptr(),
-                cells.as_ptr(),
-                cells.len(),
-                order.as_mut_ptr(),
-                order.len(),
-            )
-        }
+        calls::make_order(handed(shape, cells), order)
     }
 
     fn row(&self, shape: &Shape, cells: &[i32], row: &[u32]) -> RowTold {
         let mut answer = [UNWRITTEN; 2];
-        // SAFETY: every pointer comes from a reference, with its length; the one written to is exclusive.
-        let number = unsafe {
-            overlay_row(
-                shape.k,
-                shape.sizes.as_ptr(),
-                shape.margins.as_ptr(),
-                cells.as_ptr(),
-                cells.len(),
-                row.as_ptr(),
-                row.len(),
-                answer.as_mut_ptr(),
-            )
-        };
+        let number = calls::row(handed(shape, cells), row, &mut answer);
         RowTold { number, layer: small(answer[0]), area: answer[1] }
     }
 
     fn common(&self, shape: &Shape, cells: &[i32], row: &[u32]) -> CommonTold {
         let mut answer = [UNWRITTEN as i32; 5];
-        // SAFETY: every pointer comes from a reference, with its length; the one written to is exclusive.
-        let number = unsafe {
-            overlay_row_common(
-                shape.k,
-                shape.sizes.as_ptr(),
-                shape.margins.as_ptr(),
-                cells.as_ptr(),
-                cells.len(),
-                row.as_ptr(),
-                row.len(),
-                answer.as_mut_ptr(),
-            )
-        };
+        let number = calls::row_common(handed(shape, cells), row, &mut answer);
         let [left, bottom, right, top, kind] = answer;
         CommonTold {
             number,
@@ -514,39 +169,13 @@ impl Overlay for Library {
 
     fn pair(&self, shape: &Shape, cells: &[i32], places: &[u32]) -> PairTold {
         let mut answer = [UNWRITTEN; 2];
-        // SAFETY: every pointer comes from a reference, with its length; the one written to is exclusive.
-        let number = unsafe {
-            overlay_apart_pair(
-                shape.k,
-                shape.sizes.as_ptr(),
-                shape.margins.as_ptr(),
-                cells.as_ptr(),
-                cells.len(),
-                places.as_ptr(),
-                places.len(),
-                answer.as_mut_ptr(),
-            )
-        };
+        let number = calls::apart_pair(handed(shape, cells), places, &mut answer);
         PairTold { number, lower: small(answer[0]), higher: small(answer[1]) }
     }
 
     fn fresh(&self, shape: &Shape, cells: &[i32], order: &[u32], record: &mut [u64]) -> (u32, Ticket) {
         let mut ticket = [UNWRITTEN as u32; 12];
-        // SAFETY: every pointer comes from a reference, with its length; those written to are exclusive.
-        let number = unsafe {
-            overlay_fresh_ticket(
-                shape.k,
-                shape.sizes.as_ptr(),
-                shape.margins.as_ptr(),
-                cells.as_ptr(),
-                cells.len(),
-                order.as_ptr(),
-                order.len(),
-                ticket.as_mut_ptr(),
-                record.as_mut_ptr(),
-                record.len(),
-            )
-        };
+        let number = calls::fresh_ticket(handed(shape, cells), order, &mut ticket, record);
         (number, ticket_in(&ticket))
     }
 
@@ -562,71 +191,25 @@ impl Overlay for Library {
     ) -> Page {
         let mut given = cells_of(ticket);
         let (number, answer) = fetch_page(shape, cells, order, (&mut given, record), budget, table);
-        let [code, rows, trials, metres, rest] = answer;
-        Page {
-            stop: stop_of(number, code),
-            rows: small(rows),
-            trials: small(trials),
-            area: Total { metres, rest },
-            ticket: ticket_in(&given),
-        }
+        page_of(number, answer, &given)
     }
 
     fn run(&self, shape: &Shape, cells: &[i32], order: &[u32], table: &mut [u32], work: &mut [i32]) -> Run {
         let mut answer = [UNWRITTEN; 6];
-        // SAFETY: every pointer comes from a reference, with its length; those written to are exclusive.
-        let number = unsafe {
-            overlay_run_all(
-                shape.k,
-                shape.sizes.as_ptr(),
-                shape.margins.as_ptr(),
-                cells.as_ptr(),
-                cells.len(),
-                order.as_ptr(),
-                order.len(),
-                table.as_mut_ptr(),
-                table.len(),
-                work.as_mut_ptr(),
-                work.len(),
-                answer.as_mut_ptr(),
-            )
-        };
+        let number = calls::run_all(handed(shape, cells), order, table, work, &mut answer);
         run_of(number, answer)
     }
 
     fn read(&self, text: &[u8], cells: &mut [i32]) -> Reading {
         let unwritten = UNWRITTEN as u32;
         let mut shape = Shape { k: unwritten, sizes: [unwritten; 6], margins: [unwritten; 6] };
-        // SAFETY: every pointer comes from a reference, with its length; those written to are exclusive.
-        let number = unsafe {
-            overlay_read_text(
-                text.as_ptr(),
-                text.len(),
-                cells.as_mut_ptr(),
-                cells.len(),
-                &mut shape.k,
-                shape.sizes.as_mut_ptr(),
-                shape.margins.as_mut_ptr(),
-            )
-        };
+        let number = calls::read_text(text, cells, &mut shape.k, &mut shape.sizes, &mut shape.margins);
         Reading { number, shape }
     }
 
     fn write(&self, shape: &Shape, cells: &[i32], text: &mut [u8]) -> Writing {
         let mut length = UNWRITTEN as usize;
-        // SAFETY: every pointer comes from a reference, with its length; those written to are exclusive.
-        let number = unsafe {
-            overlay_write_text(
-                shape.k,
-                shape.sizes.as_ptr(),
-                shape.margins.as_ptr(),
-                cells.as_ptr(),
-                cells.len(),
-                text.as_mut_ptr(),
-                text.len(),
-                &mut length,
-            )
-        };
+        let number = calls::write_text(handed(shape, cells), text, &mut length);
         Writing { number, length }
     }
 }
@@ -634,19 +217,7 @@ impl Overlay for Library {
 impl Crossings for Library {
     fn class(&self, shape: &Shape, cells: &[i32], places: &[u32]) -> ClassTold {
         let mut class = UNWRITTEN as u32;
-        // SAFETY: every pointer comes from a reference, with its length; the one written to is exclusive.
-        let number = unsafe {
-            overlay_row_class(
-                shape.k,
-                shape.sizes.as_ptr(),
-                shape.margins.as_ptr(),
-                cells.as_ptr(),
-                cells.len(),
-                places.as_ptr(),
-                places.len(),
-                &mut class,
-            )
-        };
+        let number = calls::row_class(handed(shape, cells), places, &mut class);
         ClassTold { number, class }
     }
 
@@ -659,24 +230,8 @@ impl Crossings for Library {
         work: &mut [i32],
     ) -> Report {
         let (mut answer, mut counts) = ([UNWRITTEN; 6], [UNWRITTEN as u32; 17]);
-        // SAFETY: every pointer comes from a reference, with its length; those written to are exclusive.
-        let number = unsafe {
-            overlay_crossing_report(
-                shape.k,
-                shape.sizes.as_ptr(),
-                shape.margins.as_ptr(),
-                cells.as_ptr(),
-                cells.len(),
-                order.as_ptr(),
-                order.len(),
-                table.as_mut_ptr(),
-                table.len(),
-                work.as_mut_ptr(),
-                work.len(),
-                answer.as_mut_ptr(),
-                counts.as_mut_ptr(),
-            )
-        };
+        let plan = handed(shape, cells);
+        let number = calls::crossing_report(plan, order, table, work, &mut answer, &mut counts);
         Report { run: run_of(number, answer), counts }
     }
 }
@@ -689,59 +244,20 @@ impl Timed for Library {
     fn page(&self, lent: &mut hours::Lent) -> Page {
         let mut given = cells_of(&lent.ticket);
         let (number, answer) = timed_page(lent, &mut given);
-        let [code, rows, trials, metres, rest] = answer;
-        Page {
-            stop: stop_of(number, code),
-            rows: small(rows),
-            trials: small(trials),
-            area: Total { metres, rest },
-            ticket: ticket_in(&given),
-        }
+        page_of(number, answer, &given)
     }
 
     fn run(&self, lent: &mut hours::Lent) -> Run {
         let mut answer = [UNWRITTEN; 6];
         let hours::Lent { plan, hours, order, table, work, .. } = lent;
-        // SAFETY: every pointer comes from a reference, with its length; those written to are exclusive.
-        let number = unsafe {
-            overlay_timed_run(
-                plan.shape.k,
-                plan.shape.sizes.as_ptr(),
-                plan.shape.margins.as_ptr(),
-                plan.cells.as_ptr(),
-                plan.cells.len(),
-                hours.as_ptr(),
-                hours.len(),
-                order.as_ptr(),
-                order.len(),
-                table.as_mut_ptr(),
-                table.len(),
-                work.as_mut_ptr(),
-                work.len(),
-                answer.as_mut_ptr(),
-            )
-        };
-        run_of(number, answer)
+        let plan = handed(&plan.shape, &plan.cells);
+        run_of(calls::timed_run(plan, hours, order, table, work, &mut answer), answer)
     }
 
     fn hours(&self, lent: &mut hours::Lent) -> HoursTold {
         let mut answer = [UNWRITTEN as u32; 2];
         let hours::Lent { plan, hours, places, .. } = lent;
-        // SAFETY: every pointer comes from a reference, with its length; the one written to is exclusive.
-        let number = unsafe {
-            overlay_row_hours(
-                plan.shape.k,
-                plan.shape.sizes.as_ptr(),
-                plan.shape.margins.as_ptr(),
-                plan.cells.as_ptr(),
-                plan.cells.len(),
-                hours.as_ptr(),
-                hours.len(),
-                places.as_ptr(),
-                places.len(),
-                answer.as_mut_ptr(),
-            )
-        };
+        let number = calls::row_hours(handed(&plan.shape, &plan.cells), hours, places, &mut answer);
         HoursTold { number, from: answer[0], to: answer[1] }
     }
 }

@@ -3,6 +3,7 @@
 mod extras;
 mod ffi;
 mod report;
+mod typed;
 
 use extras::compare_extras;
 use ffi::{cover_records, Library};
@@ -16,6 +17,7 @@ use overlay_tests::rounds::{self, compare_rounds};
 use overlay_tests::surveys::{self, compare_surveys};
 use report::compare_program;
 use std::process::exit;
+use typed::compare_types;
 
 /// Shows the first difference and stops with an error.
 fn stop(text: &str, cases: u64) -> ! {
@@ -23,11 +25,13 @@ fn stop(text: &str, cases: u64) -> ! {
     exit(1);
 }
 
-/// The seven calls of 01 and the pair call first, then what only the C interface has, then those of 02, then the report program.
+/// The seven calls of 01 and the pair call first, then what only the C interface has, then the types of the Rust crate, then those of 02, then the report program.
 fn main() {
     let mut tally = compare(&Library, &REFERENCE).unwrap_or_else(|found| stop(&found.text, found.cases));
     let extras = compare_extras().unwrap_or_else(|text| stop(&text, tally.cases()));
     tally.add("C interface alone", extras);
+    let types = compare_types().unwrap_or_else(|text| stop(&text, tally.cases()));
+    tally.add("types of the Rust crate", types);
     let near =
         compare_nearest(&ffi::nearest, &nearest).unwrap_or_else(|found| stop(&found.text, tally.cases()));
     tally.add("nearest", near);
