@@ -444,6 +444,30 @@ static inline const char *overlay_cause_text(uint32_t number)
     }
 }
 
+/* ---- The program `overlay` as functions. Link with libprogram.a, which `rt staticlib program` writes; programs/overlay.c is the program around them. */
+
+/* The bytes of the longest text, one more of which is refused by 13; the cells of `table` and of `work`; the bytes of the buffers for standard output and
+ * standard error. */
+enum {
+    OVERLAY_COMMAND_TEXT = 65536,
+    OVERLAY_COMMAND_CELLS = 524288,
+    OVERLAY_COMMAND_OUT = 167772160,
+    OVERLAY_COMMAND_ERR = 65536
+};
+
+/* Where the text comes from, and the second text, by the program's arguments: each argument from the first on, followed by a byte 0. 0: from nowhere, 1:
+ * from standard input, n above 1: from the file that argument n names. */
+size_t overlay_text_source(const uint8_t *arguments, size_t arguments_length);
+size_t overlay_second_source(const uint8_t *arguments, size_t arguments_length);
+
+/* What the program says for these arguments and texts. Returns the exit status: 0 done, 1 refused, 2 wrong arguments. The bytes for standard output and
+ * for standard error are left at the start of `out`, which has OVERLAY_COMMAND_OUT bytes, and of `err`, which has OVERLAY_COMMAND_ERR; how many they are in
+ * `out_size` and `err_size`. It does not matter what `table` and `work`, OVERLAY_COMMAND_CELLS cells each, hold before, and what they hold afterwards is
+ * free. */
+uint32_t overlay_command(const uint8_t *arguments, size_t arguments_length, const uint8_t *text, size_t text_length,
+                         const uint8_t *second, size_t second_length, uint32_t *table, int32_t *work, uint8_t *out,
+                         uint8_t *err, size_t *out_size, size_t *err_size);
+
 #ifdef __cplusplus
 }
 #endif

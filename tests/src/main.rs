@@ -1,5 +1,6 @@
 //! Compares the reference with wrong overlays, each of which must be caught, and with itself.
 
+use overlay_tests::checks::{check, compare_checks, ByWords as CheckByWords, SLIPS as CHECK_SLIPS};
 use overlay_tests::compare::{compare, Tally};
 use overlay_tests::crossings::{compare_crossings, ByWords, SLIPS as CROSSING_SLIPS};
 use overlay_tests::hours::{compare_hours, ByWords as HoursByWords, SLIPS as HOURS_SLIPS};
@@ -92,6 +93,16 @@ fn catch_wrong_hours() {
     }
 }
 
+/// Every wrong check must differ from the right one somewhere.
+fn catch_wrong_checks() {
+    for (slip, name) in CHECK_SLIPS {
+        match compare_checks(&|text| CheckByWords(Some(slip)).check(text), &check) {
+            Err(found) => println!("wrong check caught after {} cases: {name}", found.cases),
+            Ok(_) => stop(&format!("wrong check not caught: {name}")),
+        }
+    }
+}
+
 /// Every wrong statement must be shown wrong by the reference, and every lawless overlay by the laws.
 fn catch_wrong_laws() {
     for (wrong, name) in WRONG_LAWS {
@@ -120,6 +131,7 @@ fn compare_with_itself() -> Tally {
     tally.add("rounds", compare_rounds(&round, &round).unwrap_or_else(|found| stop(&found.text)));
     let hours = compare_hours(&HoursByWords(None), &HoursByWords(None));
     tally.add("hours", hours.unwrap_or_else(|found| stop(&found.text)));
+    tally.add("checks", compare_checks(&check, &check).unwrap_or_else(|found| stop(&found.text)));
     tally.add("laws", try_laws(&REFERENCE, &LAWS).unwrap_or_else(|found| stop(&found.text)));
     tally
 }
@@ -133,6 +145,7 @@ fn main() {
     catch_wrong_crossings();
     catch_wrong_rounds();
     catch_wrong_hours();
+    catch_wrong_checks();
     catch_wrong_laws();
     print!("{}", compare_with_itself());
 }

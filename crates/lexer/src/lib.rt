@@ -2,4 +2,7 @@
 mod numbers;
 mod parse;
 
+pub use numbers::read_number;
+pub use parse::read_field;
 pub use parse::read_line;
+pub use parse::starts;

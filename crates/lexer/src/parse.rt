@@ -12,7 +12,7 @@ ghost use lib.ListN.{length, drop};
 ghost use Rattle.line.specs.Places.{startsWith, endOf, endsBy, fieldFrom, rectFrom, layerFrom, planFrom, lineFrom};
 
 // Whether a word stands at a place.
-fn starts(s: &[u8], at: usize, word: &[u8]) -> bool
+pub fn starts(s: &[u8], at: usize, word: &[u8]) -> bool
     requires { ⌜ at ≤ length (now s) ⌝ }
     ensures { λ r. ⌜ r ≡ startsWith (now (word .entry)) (drop at (now (s .entry))) ⌝ }
 {
@@ -44,7 +44,7 @@ fn ends(kind: Kind, last: bool) -> bool
 }
 
 // A number and the byte that ends its field, the last one of its line or another.
-fn read_field(s: &[u8], at: usize, last: bool) -> Number
+pub fn read_field(s: &[u8], at: usize, last: bool) -> Number
     ensures { λ r. ⌜ r ≡ fieldFrom (now (s .entry)) at (endOf last) ⌝ }
 {
     match read_number(s, at) {

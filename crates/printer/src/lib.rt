@@ -26,7 +26,7 @@ ghost use Rattle.printing.specs.Lines.{fieldsEnd, ROW, lineOf, rowFields, rowLi
 ghost use Rattle.printing.specs.Parts.{tabbed, FitsAt};
 
 // A tab and a number; the place behind it.
-fn put_field(buf: &mut [u8], at: usize, n: u64) -> usize
+pub fn put_field(buf: &mut [u8], at: usize, n: u64) -> usize
     requires { ⌜ FitsAt (now buf) at (9 ∷ decimal n) ⌝ }
     ensures { λ r. ⌜ Put (now (buf .entry)) at (9 ∷ decimal n) (now (buf .exit)) r ⌝ }
 {
@@ -49,7 +49,7 @@ fn put_fields(buf: &mut [u8], from: usize, ns: &[u32]) -> usize
 }
 
 // The byte that ends a line; the place behind it.
-fn end_line(buf: &mut [u8], at: usize) -> usize
+pub fn end_line(buf: &mut [u8], at: usize) -> usize
     requires { ⌜ FitsAt (now buf) at (fieldsEnd []) ⌝ }
     ensures { λ r. ⌜ Put (now (buf .entry)) at (fieldsEnd []) (now (buf .exit)) r ⌝ }
 {
@@ -58,7 +58,7 @@ fn end_line(buf: &mut [u8], at: usize) -> usize
 }
 
 // The last field of a line, and the byte that ends it; the place behind them.
-fn put_last(buf: &mut [u8], at: usize, n: u64) -> usize
+pub fn put_last(buf: &mut [u8], at: usize, n: u64) -> usize
     requires { ⌜ FitsAt (now buf) at (fieldsEnd (decimal n ∷ [])) ⌝ }
     ensures { λ r. ⌜ Put (now (buf .entry)) at (fieldsEnd (decimal n ∷ [])) (now (buf .exit)) r ⌝ }
 {
@@ -95,7 +95,7 @@ fn put_places(buf: &mut [u8], at: usize, row: &[u32], area: u64, kind: Kind) -> 
 }
 
 // A ROW line from its layer on; the place behind it.
-fn put_layer(buf: &mut [u8], at: usize, layer: u32, row: &[u32], area: u64, kind: Kind) -> usize
+pub fn put_layer(buf: &mut [u8], at: usize, layer: u32, row: &[u32], area: u64, kind: Kind) -> usize
     requires { ⌜ FitsAt (now buf) at (fieldsEnd (rowFields layer (now row) area kind)) ⌝ }
     ensures { λ r. ⌜ Put (now (buf .entry)) at (fieldsEnd (rowFields layer (now (row .entry)) area kind)) (now (buf .exit)) r ⌝ }
 {
@@ -113,7 +113,7 @@ fn put_row(buf: &mut [u8], at: usize, layer: u32, row: &[u32], area: u64, kind: 
 }
 
 // The ROW line of a row of the first k layers' join; the place behind it.
-fn put_joined(
+pub fn put_joined(
     buf: &mut [u8],
     at: usize,
     sizes: &[u32],
@@ -189,7 +189,7 @@ fn put_decimals(buf: &mut [u8], at: usize, h: u64) -> usize
 }
 
 // A tab, whole metres and hundredths with two decimals; the place behind them.
-fn put_metres(buf: &mut [u8], at: usize, metres: u64, h: u64) -> usize
+pub fn put_metres(buf: &mut [u8], at: usize, metres: u64, h: u64) -> usize
     requires { ⌜ FitsAt (now buf) at (9 ∷ decimal metres ++ 46 ∷ digits 2 h) ⌝ }
     ensures { λ r. ⌜ Put (now (buf .entry)) at (9 ∷ decimal metres ++ 46 ∷ digits 2 h) (now (buf .exit)) r ⌝ }
 {
@@ -227,7 +227,7 @@ fn put_counts(buf: &mut [u8], at: usize, rows: u32, probes: u64, total: Total) -
 }
 
 // The TOTAL line; the place behind it.
-fn put_total(buf: &mut [u8], at: usize, rows: u32, probes: u64, total: Total) -> usize
+pub fn put_total(buf: &mut [u8], at: usize, rows: u32, probes: u64, total: Total) -> usize
     requires { ⌜ Kept total × FitsAt (now buf) at (totalLine rows probes total) ⌝ }
     ensures { λ r. ⌜ Put (now (buf .entry)) at (totalLine rows probes total) (now (buf .exit)) r ⌝ }
 {

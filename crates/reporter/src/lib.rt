@@ -8,6 +8,7 @@ use planner::grow_plan;
 use printer::put_refused;
 use printer::put_table;
 use reader::read;
+use reporting::Printout;
 use runner::run_all;
 use sweeper::make_order;
 use totals::Total;
@@ -22,10 +23,10 @@ ghost use Rattle.lists.specs.Stores.{Put};
 ghost use Rattle.totals.specs.Totals.{Kept};
 ghost use Rattle.rows.specs.Tables.{rowsIn};
 ghost use Rattle.rows.specs.TableRows.{TableRows};
-ghost use Rattle.printing.specs.Lines.{rowLines, totalLine};
+ghost use Rattle.printing.specs.Lines.{rowLines, totalLine, refusedLine};
 ghost use Rattle.printing.specs.Parts.{FitsAt};
-ghost use Rattle.reporting.specs.Report.{runTableCells, roomForAny, reportOf, outAfter};
-ghost use Rattle.reporting.specs.Parts.{planCells, Lent, RanInto, planReport};
+ghost use Rattle.reporting.specs.Report.{runTableCells, roomForAny, reportCause, reportOf, outAfter};
+ghost use Rattle.reporting.specs.Parts.{planCells, Lent, RanInto, planCause, planReport, Printed};
 
 // The longest input.
 const LONGEST_INPUT: usize = 65536;
@@ -41,37 +42,47 @@ pub fn report(text: &[u8], out: &mut [u8; 655360]) -> usize
     ensures buffer { λ _. ⌜ now (out .exit) ≡ outAfter (now (text .entry)) (now (out .entry)) ⌝ }
     ensures inside { λ r. ⌜ (r ≤ length (now (out .exit))) × (r ≡ length (take r (now (out .exit)))) ⌝ }
 {
-    report_on(text, out)
+    report_on(text, out).size
 }
 
-// The report on a text, where there is room for any.
-fn report_on(text: &[u8], out: &mut [u8]) -> usize
+// The report on a text, where there is room for any, and its cause.
+pub fn report_on(text: &[u8], out: &mut [u8]) -> Printout
     requires { ⌜ roomForAny ≤ length (now out) ⌝ }
-    ensures { λ r. ⌜ Put (now (out .entry)) 0 (reportOf (now (text .entry))) (now (out .exit)) r ⌝ }
+    ensures { λ r. ⌜ Printed (reportCause (now (text .entry))) (reportOf (now (text .entry))) (now (out .entry)) (now (out .exit)) r ⌝ }
 {
     if LONGEST_INPUT < text.len() {
-        return put_refused(out, 0, 13);
+        return refuse(out, 13);
     }
     let mut cells = [0i32; MOST_CELLS];
     report_text(text, &mut cells, out)
 }
 
+// A refusal, where there is room for any report.
+fn refuse(out: &mut [u8], cause: u32) -> Printout
+    requires { ⌜ roomForAny ≤ length (now out) ⌝ }
+    ensures { λ r. ⌜ Printed cause (refusedLine cause) (now (out .entry)) (now (out .exit)) r ⌝ }
+{
+    let size = put_refused(out, 0, cause);
+    Printout { cause, size }
+}
+
 // The report on a text that is not too long, with the cells that it is read into.
-fn report_text(text: &[u8], cells: &mut [i32], out: &mut [u8]) -> usize
+fn report_text(text: &[u8], cells: &mut [i32], out: &mut [u8]) -> Printout
     requires { ⌜ (length (now text) ≤ 65536) × (length (now cells) ≡ mostCells) × (roomForAny ≤ length (now out)) ⌝ }
-    ensures { λ r. ⌜ Put (now (out .entry)) 0 (reportOf (now (text .entry))) (now (out .exit)) r ⌝ }
+    ensures { λ r. ⌜ Printed (reportCause (now (text .entry))) (reportOf (now (text .entry))) (now (out .entry)) (now (out .exit)) r ⌝ }
 {
     let reading = read(text, cells);
     if reading.number != 0 {
-        return put_refused(out, 0, reading.number);
+        return refuse(out, reading.number);
     }
     report_plan(reading.shape, cells, out)
 }
 
 // The report on a sound plan, whose cells stand first in the lent ones.
-fn report_plan(shape: Shape, lent: &[i32], out: &mut [u8]) -> usize
+fn report_plan(shape: Shape, lent: &[i32], out: &mut [u8]) -> Printout
     requires { ⌜ Lent shape (now lent) × (roomForAny ≤ length (now out)) ⌝ }
-    ensures { λ r. ⌜ Put (now (out .entry)) 0 (planReport shape (planCells shape (now (lent .entry)))) (now (out .exit)) r ⌝ }
+    ensures { λ r. ⌜ Printed (planCause shape (planCells shape (now (lent .entry)))) (planReport shape (planCells shape (now (lent .entry))))
+        (now (out .entry)) (now (out .exit)) r ⌝ }
 {
     let n = 4 * count_of(shape);
     let mut order = [0u32; MOST_RECTS];
@@ -86,10 +97,10 @@ fn report_cells(
     order: &mut [u32],
     table: &mut [u32],
     out: &mut [u8],
-) -> usize
+) -> Printout
     requires { ⌜ Sound shape (now cells) × (count (now cells) ≤ length (now order)) × (length (now table) ≡ runTableCells)
         × (roomForAny ≤ length (now out)) ⌝ }
-    ensures { λ r. ⌜ Put (now (out .entry)) 0 (planReport shape (now (cells .entry))) (now (out .exit)) r ⌝ }
+    ensures { λ r. ⌜ Printed (planCause shape (now (cells .entry))) (planReport shape (now (cells .entry))) (now (out .entry)) (now (out .exit)) r ⌝ }
 {
     let n = cells.len() / 4;
     report_sound(shape, cells, &mut order[..n], table, out)
@@ -102,10 +113,10 @@ fn report_sound(
     order: &mut [u32],
     table: &mut [u32],
     out: &mut [u8],
-) -> usize
+) -> Printout
     requires { ⌜ Sound shape (now cells) × (length (now order) ≡ count (now cells)) × (length (now table) ≡ runTableCells)
         × (roomForAny ≤ length (now out)) ⌝ }
-    ensures { λ r. ⌜ Put (now (out .entry)) 0 (planReport shape (now (cells .entry))) (now (out .exit)) r ⌝ }
+    ensures { λ r. ⌜ Printed (planCause shape (now (cells .entry))) (planReport shape (now (cells .entry))) (now (out .entry)) (now (out .exit)) r ⌝ }
 {
     make_order(shape, cells, order);
     report_ordered(shape, cells, order, table, out)
@@ -118,10 +129,11 @@ fn report_ordered(
     order: &[u32],
     table: &mut [u32],
     out: &mut [u8],
-) -> usize
+) -> Printout
     requires { ⌜ Sound shape (now cells) × (now order ≡ sweepOrder (grown shape (now cells)))
-        × (length (now table) ≡ runTableCells) × (roomForAny ≤ length (now out)) ⌝ }
-    ensures { λ r. ⌜ Put (now (out .entry)) 0 (planReport shape (now (cells .entry))) (now (out .exit)) r ⌝ }
+        × (length (now table) ≡ runTableCells)
+        × (roomForAny ≤ length (now out)) ⌝ }
+    ensures { λ r. ⌜ Printed (planCause shape (now (cells .entry))) (planReport shape (now (cells .entry))) (now (out .entry)) (now (out .exit)) r ⌝ }
 {
     let mut work = [0i32; RUN_WORK_CELLS];
     let run = run_all(shape, cells, order, table, &mut work);
@@ -129,14 +141,15 @@ fn report_ordered(
 }
 
 // The report on what the whole run answered, and the table that it left.
-fn report_run(run: Run, shape: Shape, cells: &[i32], table: &[u32], out: &mut [u8]) -> usize
+fn report_run(run: Run, shape: Shape, cells: &[i32], table: &[u32], out: &mut [u8]) -> Printout
     requires { ⌜ RanInto shape (now cells) run (now table) × (roomForAny ≤ length (now out)) ⌝ }
-    ensures { λ r. ⌜ Put (now (out .entry)) 0 (planReport shape (now (cells .entry))) (now (out .exit)) r ⌝ }
+    ensures { λ r. ⌜ Printed (planCause shape (now (cells .entry))) (planReport shape (now (cells .entry))) (now (out .entry)) (now (out .exit)) r ⌝ }
 {
     match run {
-        Run::Refused(cause) => put_refused(out, 0, cause),
+        Run::Refused(cause) => refuse(out, cause),
         Run::Done(rows, probes, _, ground) => {
-            put_grown(out, shape, cells, table, rows, probes, ground)
+            let size = put_grown(out, shape, cells, table, rows, probes, ground);
+            Printout { cause: 0, size }
         }
     }
 }

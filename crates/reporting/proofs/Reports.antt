@@ -28,7 +28,7 @@ use Rattle.printing.specs.Lines.{rowLines, totalLine, refusedLine}
 use Rattle.printing.specs.Parts.{FitsAt}
 use Rattle.printing.proofs.Lines.{rows-few, total-few, refused-few}
 use Rattle.reporting.specs.Report.{runTableCells, runWorkCells, emptyTable, tableReport, roomForAny}
-use Rattle.reporting.specs.Parts.{planCells, Lent, planReport}
+use Rattle.reporting.specs.Parts.{planCells, Lent, planCause, planReport}
 use Rattle.paging.specs.Overlays.{overlay}
 
 pub empty-long : length emptyTable ≡ runTableCells
@@ -43,6 +43,9 @@ swept s cells order after sound h e = e ∙ sym (order-made s cells order sound 
 module _ (s : Shape) (lent : List ℤ) (n : ℕ) (e : n ≡ sum (s .sizes)) where
   pub lent-report : planReport s (planCells s lent) ≡ planReport s (take (4 * n) lent)
   lent-report = rw e
+
+  pub lent-cause : planCause s (planCells s lent) ≡ planCause s (take (4 * n) lent)
+  lent-cause = rw e
 
   module _ (h : Lent s lent) where
     pub lent-inside : 4 * n ≡ length (take (4 * n) lent)
@@ -91,7 +94,7 @@ refused-room out cause h = record { fits = omega (arith, refused-few cause) }
 
 -- no report on a plan is longer
 pub plan-longest : (s : Shape) (cells : List ℤ) → Sound s cells → length (planReport s cells) ≤ roomForAny
-unfolding planReport
+unfolding planReport planCause
 plan-longest s cells sound = go (runCause none s cells (sweepOrder (grown s cells)) emptyTable runWorkCells) refl
   where
     go : (cause : ℕ) → runCause none s cells (sweepOrder (grown s cells)) emptyTable runWorkCells ≡ cause → length (onCause cause (tableReport s cells) refusedLine) ≤ roomForAny

@@ -29,26 +29,32 @@ use Rattle.printing.specs.Lines.{rowLines, totalLine, refusedLine}
 use Rattle.rows.specs.TableRows.{TableRows}
 use Rattle.rows.proofs.TableRows.{table-rows}
 use Rattle.printing.specs.Parts.{FitsAt}
+use Rattle.lists.specs.Stores.{Put}
+use Rattle.printing.proofs.Puts.{put-same}
 use Rattle.reporting.specs.Report.{runTableCells, runWorkCells, emptyTable, tableReport, roomForAny}
-use Rattle.reporting.specs.Parts.{RanInto, planReport}
+use Rattle.reporting.specs.Parts.{RanInto, planCause, planReport, Printed}
 use Rattle.reporting.proofs.Reports.{same-cause, lines-fit}
 
 -- ---- the whole run's answers
-abbrev is-done : Run → Bool
+abbrev pub is-done : Run → Bool
 is-done (Refused cause) = false
 is-done (Done rows probes area ground) = true
 
+onCause-id : (cause : ℕ) → onCause cause 0 (λ n. n) ≡ cause
+onCause-id zero = refl
+onCause-id (suc cause) = refl
+
 module _ (rows probes : ℕ) (area total : Total) where
   -- its answer for a cause
-  abbrev answered : ℕ → Run
+  abbrev pub answered : ℕ → Run
   answered cause = onCause cause (Done rows probes area total) (λ n. Refused n)
 
   -- a refusal has its cause's number
-  refusal : {A : Type 0} (printed : A) (line : ℕ → A) (cause c : ℕ) → Refused c ≡ answered cause → onCause cause printed line ≡ line c
+  pub refusal : {A : Type 0} (printed : A) (line : ℕ → A) (cause c : ℕ) → Refused c ≡ answered cause → onCause cause printed line ≡ line c
   refusal printed line zero c e = clash refl (sym (ap is-done e))
   refusal printed line (suc cause) c e = ap line (sym (ap (λ (r : Run). runValues r .number) e))
 
-  success : (cause r p : ℕ) (a t : Total) → Done r p a t ≡ answered cause → (cause ≡ 0) × (r ≡ rows) × (p ≡ probes) × (t ≡ total)
+  pub success : (cause r p : ℕ) (a t : Total) → Done r p a t ≡ answered cause → (cause ≡ 0) × (r ≡ rows) × (p ≡ probes) × (t ≡ total)
   success zero r p a t e =
       (refl, ap (λ (x : Run). runValues x .rows) e, ap (λ (x : Run). runValues x .probes) e, ap (λ (x : Run). runValues x .ground) e)
   success (suc cause) r p a t e = clash (sym (ap is-done e)) refl
@@ -62,8 +68,14 @@ ran s cells order lent run table sound o long e f =
 
 module _ (s : Shape) (cells : List ℤ) (run : Run) (table : List ℕ) (h : RanInto s cells run table) where
   -- what is printed where it refuses
+  pub refused-cause : (c : ℕ) → run ≡ Refused c → planCause s cells ≡ c
+  unfolding runCall planCause
+  refused-cause c e =
+      sym (onCause-id _) ∙ refusal _ _ _ _ 0 (λ n. n) (runCause none s cells (sweepOrder (grown s cells)) emptyTable runWorkCells) c
+      (rw (same-cause s cells (h .sound) (sweepOrder (grown s cells)) (h .lent) refl (h .long)) at (sym e ∙ h .answer))
+
   pub refused-report : (c : ℕ) → run ≡ Refused c → planReport s cells ≡ refusedLine c
-  unfolding runCall planReport
+  unfolding runCall planReport planCause
   refused-report c e =
       refusal _ _ _ _ (tableReport s cells) refusedLine (runCause none s cells (sweepOrder (grown s cells)) emptyTable runWorkCells) c
       (rw (same-cause s cells (h .sound) (sweepOrder (grown s cells)) (h .lent) refl (h .long)) at (sym e ∙ h .answer))
@@ -71,13 +83,14 @@ module _ (s : Shape) (cells : List ℤ) (run : Run) (table : List ℕ) (h : RanI
   module _ (rows probes : ℕ) (area total : Total) (e : run ≡ Done rows probes area total) where
     -- what is printed where it succeeds, and the rows that the table has
     record Told : Type 0 where
+      passes : planCause s cells ≡ 0
       is : planReport s cells ≡ rowLines (layers s cells) (tableOf (sizesOf s) (grown s cells)) ++ totalLine rows probes total
       read : rowsIn (s .k) rows table ≡ tableOf (sizesOf s) (grown s cells)
       short : length (rowLines (layers s cells) (tableOf (sizesOf s) (grown s cells)) ++ totalLine rows probes total) ≤ roomForAny
       kept : Kept total
 
     told : Told
-    unfolding runCall planReport
+    unfolding runCall planReport planCause
     told =
         let order = sweepOrder (grown s cells) in
         let lent = h .lent in
@@ -85,14 +98,20 @@ module _ (s : Shape) (cells : List ℤ) (run : Run) (table : List ℕ) (h : RanI
         let z : runCause none s cells order emptyTable runWorkCells ≡ 0 = sym (same-cause s cells (h .sound) order lent refl (h .long)) ∙ d .0 in
         let r = run-holds s cells order lent runWorkCells (h .sound) (order-passes s cells (h .sound .passed)) (run-passed s cells order lent runWorkCells (d .0) .1) in
         record {
+          passes = z;
           is = rw (z, d .1, d .2, d .3);
           read = rw (h .filled, d .1) (r .rows (d .0));
           short = lines-fit s cells (h .sound) order lent refl (h .long) rows probes total (r .succeeds .0 (d .0));
           kept = kept-total total _ (d .3) (omega (arith, union-holds .bound (grounds (layers s cells) (overlay s cells .table))));
         }
 
-    pub printed : planReport s cells ≡ rowLines (layers s cells) (rowsIn (s .k) rows table) ++ totalLine rows probes total
+    printed : planReport s cells ≡ rowLines (layers s cells) (rowsIn (s .k) rows table) ++ totalLine rows probes total
     printed = rw (told .read) (told .is)
+
+    -- its lines are put
+    pub run-printed : (out last : List ℕ) (size : ℕ) → Put out 0 (rowLines (layers s cells) (rowsIn (s .k) rows table) ++ totalLine rows probes total) last size
+        → Printed (planCause s cells) (planReport s cells) out last (record { cause = 0; size = size })
+    run-printed out last size p = record { number = sym (told .passes); put = put-same out 0 _ _ last size p printed }
 
     pub total-kept : Kept total
     total-kept = told .kept

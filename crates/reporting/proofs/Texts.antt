@@ -18,22 +18,36 @@ use Rattle.lists.specs.Stores.{Put}
 use Rattle.lists.proofs.Stores.{put-start, put-length}
 use Rattle.printing.specs.Lines.{refusedLine}
 use Rattle.printing.proofs.Lines.{refused-few}
+use Rattle.reporting.specs.declared.Printout.{Printout}
 use Rattle.reporting.specs.Report.{reportOf, reportCause, roomForAny, outAfter}
-use Rattle.reporting.specs.Parts.{planCells, Lent, planReport}
+use Rattle.reporting.specs.Parts.{planCells, Lent, planCause, planReport, Printed}
 use Rattle.reporting.proofs.Reports.{plan-longest}
 
 pub long-text : (t : List ℕ) → 65536 < length t → reportOf t ≡ refusedLine 13
 unfolding reportOf reportCause
 long-text t h = rw (lt-leb (length t) 65536 h)
 
+pub long-cause : (t : List ℕ) → 65536 < length t → reportCause t ≡ 13
+unfolding reportCause
+long-cause t h = rw (lt-leb (length t) 65536 h)
+
 module _ (t : List ℕ) (short : length t ≤ 65536) where
+  refused-text-cause : (n : ℕ) → n ≡ readCause mostCells t → (n ≡ 0 → ⊥) → reportCause t ≡ n
+  unfolding reportCause
+  refused-text-cause zero e h = absurd (h refl)
+  refused-text-cause (suc n) e h = rw (le-leb (length t) 65536 short, ← e)
+
+  plan-text-cause : readCause mostCells t ≡ 0 → reportCause t ≡ planCause (textShape t) (textCells t)
+  unfolding reportCause planCause
+  plan-text-cause e = rw (le-leb (length t) 65536 short, e)
+
   pub refused-text : (n : ℕ) → n ≡ readCause mostCells t → (n ≡ 0 → ⊥) → reportOf t ≡ refusedLine n
   unfolding reportOf reportCause
   refused-text zero e h = absurd (h refl)
   refused-text (suc n) e h = rw (le-leb (length t) 65536 short, ← e)
 
   pub plan-text : readCause mostCells t ≡ 0 → reportOf t ≡ planReport (textShape t) (textCells t)
-  unfolding reportOf reportCause planReport
+  unfolding reportOf reportCause planReport planCause
   plan-text e = rw (le-leb (length t) 65536 short, e)
 
 -- no report is longer
@@ -53,18 +67,21 @@ module _ (t : List ℕ) (cells : List ℤ) (r : Reading) (short : length t ≤ 6
   pub refused-reading : (r .number ≡ 0 → ⊥) → reportOf t ≡ refusedLine (r .number)
   refused-reading h = refused-text t short (r .number) (rw long at f) h
 
+  pub refused-reading-cause : (r .number ≡ 0 → ⊥) → reportCause t ≡ r .number
+  refused-reading-cause h = refused-text-cause t short (r .number) (rw long at f) h
+
   module _ (after : List ℤ) (h : r .number ≡ 0) (g : after ≡ cellsAfter t cells) where
-    accepted : readCause mostCells t ≡ 0
+    pub accepted : readCause mostCells t ≡ 0
     accepted = sym (rw long at f) ∙ h
 
     -- the shape and the cells of the text's plan
-    shape-read : r .shape ≡ textShape t
+    pub shape-read : r .shape ≡ textShape t
     shape-read = ap (λ (x : Reading). x .shape) (rw long at e) ∙ rw accepted
 
     cells-read : after ≡ textCells t ++ drop (length (textCells t)) cells
     cells-read = g ∙ rw (long, accepted)
 
-    first-read : planCells (r .shape) after ≡ textCells t
+    pub first-read : planCells (r .shape) after ≡ textCells t
     first-read = rw (shape-read, cells-read) (take-at (textCells t) (drop (length (textCells t)) cells) (4 * sum (textShape t .sizes)) (of-plan mostCells t accepted .four))
 
     pub plan-lent : Lent (r .shape) after
@@ -78,7 +95,17 @@ module _ (t : List ℕ) (cells : List ℤ) (r : Reading) (short : length t ≤ 6
     pub plan-reading : reportOf t ≡ planReport (r .shape) (planCells (r .shape) after)
     plan-reading = plan-text t short accepted ∙ rw (first-read, shape-read)
 
+    pub plan-reading-cause : reportCause t ≡ planCause (r .shape) (planCells (r .shape) after)
+    plan-reading-cause = plan-text-cause t short accepted ∙ rw (first-read, shape-read)
+
 -- ---- the buffer
+-- bytes and a cause that are the same, however they are made
+pub printed-same : (n m : ℕ) (xs whole out last : List ℕ) (r : Printout) → Printed n xs out last r → m ≡ n → whole ≡ xs → Printed m whole out last r
+printed-same n m xs whole out last r p e f = rw (e, f) p
+
+pub printed-put : (n size : ℕ) (bytes out last : List ℕ) → Put out 0 bytes last size → Printed n bytes out last (record { cause = n; size = size })
+printed-put n size bytes out last p = record { number = refl; put = p }
+
 -- r bytes stand at its start, said twice, so that the part that they are can be lent
 abbrev Inside : ℕ → List ℕ → Type 0
 Inside r out = (r ≤ length out) × (r ≡ length (take r out))

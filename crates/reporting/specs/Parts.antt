@@ -13,11 +13,22 @@ use Rattle.sweep.specs.Sweep.{sweepOrder}
 use Rattle.paging.specs.declared.Run.{Run}
 use Rattle.paging.specs.Calls.{runCause, runCall, runTable}
 use Rattle.printing.specs.Lines.{refusedLine}
+use Rattle.lists.specs.Stores.{Put}
+use Rattle.reporting.specs.declared.Printout.{Printout}
 use Rattle.reporting.specs.Report.{runTableCells, runWorkCells, emptyTable, tableReport}
+
+-- the cause that refuses a sound plan's run
+unfoldable pub planCause : Shape → List ℤ → ℕ
+planCause s cells = runCause none s cells (sweepOrder (grown s cells)) emptyTable runWorkCells
 
 -- what is printed for a plan
 unfoldable pub planReport : Shape → List ℤ → List ℕ
-planReport s cells = onCause (runCause none s cells (sweepOrder (grown s cells)) emptyTable runWorkCells) (tableReport s cells) refusedLine
+planReport s cells = onCause (planCause s cells) (tableReport s cells) refusedLine
+
+-- bytes stand at the start of a buffer, beside the cause that they tell
+pub record Printed (n : ℕ) (bytes out last : List ℕ) (r : Printout) : Type 0 where
+  pub number : r .cause ≡ n
+  pub put : Put out 0 bytes last (r .size)
 
 -- the first cells, four for each rectangle of a shape
 abbrev pub planCells : Shape → List ℤ → List ℤ

@@ -132,7 +132,7 @@ fn nearest_at(sizes: &[u32], cells: &[i32], j: usize, around: Rect) -> Near
 }
 
 // The sum of at most six sizes.
-fn sum_of(sizes: &[u32]) -> usize
+pub fn sum_of(sizes: &[u32]) -> usize
     requires { ⌜ length (now sizes) ≤ 6 ⌝ }
     ensures { λ r. ⌜ r ≡ sum (now (sizes .entry)) ⌝ }
 {

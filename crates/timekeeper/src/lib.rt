@@ -81,7 +81,8 @@ fn are_hours(hours: &[u32], n: usize) -> bool
     true
 }
 
-fn is_window(w: Window) -> bool
+// Whether a window is as stated: it ends behind its start, within the week.
+pub fn is_window(w: Window) -> bool
     ensures { λ r. ⌜ r ≡ isWindow w ⌝ }
 {
     if w.from >= w.to {
@@ -129,7 +130,7 @@ pub fn row_hours(shape: Shape, cells: &[i32], hours: &[u32], places: &[u32]) -> 
 }
 
 // The minutes that the windows of a row of the first k layers share.
-fn row_minutes(sizes: &[u32], k: usize, hours: &[u32], row: &[u32]) -> Window
+pub fn row_minutes(sizes: &[u32], k: usize, hours: &[u32], row: &[u32]) -> Window
     requires { ⌜ (1 ≤ k) × (k ≤ length (now sizes)) ⌝ }
     requires { ⌜ fits (take k (now sizes)) (now row) ≡ true ⌝ }
     requires { ⌜ 2 * sum (take k (now sizes)) ≤ length (now hours) ⌝ }

@@ -5,6 +5,7 @@ mod put;
 use measure::text_size;
 use plan::Shape;
 use planner::plan_cause;
+pub use put::put_layer;
 use put::put_plan;
 use text::Writing;
 ghost use mathlib.Core.Path.{_≡_};

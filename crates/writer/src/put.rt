@@ -34,7 +34,7 @@ fn put_rects(buf: &mut [u8], from: usize, cells: &[i32], n: usize) -> usize
 }
 
 // The LAYER line and the RECT lines of a layer; the place behind them.
-fn put_layer(buf: &mut [u8], at: usize, n: u32, margin: u32, cells: &[i32]) -> usize
+pub fn put_layer(buf: &mut [u8], at: usize, n: u32, margin: u32, cells: &[i32]) -> usize
     requires { ⌜ (length (now cells) ≡ 4 * n) × (allShort (rectLines (now cells)) ≡ true) ⌝ }
     requires { ⌜ at + length (spell (Layer (pos n) (pos margin) ∷ rectLines (now cells))) ≤ length (now buf) ⌝ }
     ensures { λ r. ⌜ Put (now (buf .entry)) at (spell (Layer (pos n) (pos margin) ∷ rectLines (now (cells .entry)))) (now (buf .exit)) r ⌝ }

@@ -12,7 +12,7 @@ report-on-requires c κs = search needs
 returns : tie.Need-returns
 returns c =
     let a = c .before .before .before .args in
-    printed (now (a .text)) (now (a .out)) _ _ (omega arith) (c .report-on .ensures)
+    printed (now (a .text)) (now (a .out)) _ _ (omega arith) (c .report-on .ensures .put)
 
 pub report-spec : {M : Type 1} → statement M
 report-spec = tie.close (tie.spec report-on-requires returns)

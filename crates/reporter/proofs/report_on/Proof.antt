@@ -1,19 +1,17 @@
 -- `report_on` refuses a text that is too long, and reads any other.
 use borrow.Author.Needs.{needs}
-use Rattle.printing.proofs.Puts.{put-same}
-use Rattle.reporting.proofs.Reports.{refused-room}
-use Rattle.reporting.proofs.Texts.{long-text}
+use Rattle.reporting.proofs.Texts.{long-text, long-cause, printed-same}
 use Rattle.reporter.proofs.report_on.Statement.{statement}
 use Rattle.reporter.proofs.report_on.Tie as tie
 
-put-refused-requires : tie.Need-put-refused-requires
-put-refused-requires c κs = search refused-room
+refuse-requires : tie.Need-refuse-requires
+refuse-requires c κs = search needs
 
 same-length : tie.Need-same-length
 same-length c = search needs
 
 returns : tie.Need-returns
-returns c = search (put-same, long-text)
+returns c = search (needs, printed-same, long-text, long-cause)
 
 slice-aggregate-report-text : tie.Need-slice-aggregate-report-text
 slice-aggregate-report-text c = search needs
@@ -28,4 +26,4 @@ returns-2 : tie.Need-returns-2
 returns-2 c = search needs
 
 pub report-on-spec : {M : Type 1} → statement M
-report-on-spec = tie.close (tie.spec put-refused-requires same-length returns slice-aggregate-report-text report-text-requires same-length-2 returns-2)
+report-on-spec = tie.close (tie.spec refuse-requires same-length returns slice-aggregate-report-text report-text-requires same-length-2 returns-2)

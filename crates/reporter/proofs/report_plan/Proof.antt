@@ -1,7 +1,7 @@
 -- `report_plan` takes the plan's cells, and buffers for every order and for the run's table.
 use borrow.Author.Needs.{needs}
-use Rattle.printing.proofs.Puts.{put-same}
-use Rattle.reporting.proofs.Reports.{lent-report, lent-inside, lent-sound, lent-few}
+use Rattle.reporting.proofs.Reports.{lent-report, lent-cause, lent-inside, lent-sound, lent-few}
+use Rattle.reporting.proofs.Texts.{printed-same}
 use Rattle.reporter.proofs.report_plan.Statement.{statement}
 use Rattle.reporter.proofs.report_plan.Tie as tie
 
@@ -27,7 +27,7 @@ same-length : tie.Need-same-length
 same-length c = search needs
 
 returns : tie.Need-returns
-returns c = search (put-same, lent-report)
+returns c = search (needs, printed-same, lent-report, lent-cause)
 
 pub report-plan-spec : {M : Type 1} → statement M
 report-plan-spec =

@@ -1,16 +1,14 @@
 -- `report_text` refuses a text that is not accepted, and reports on the plan of any other.
 use borrow.Author.Needs.{needs}
-use Rattle.printing.proofs.Puts.{put-same}
-use Rattle.reporting.proofs.Reports.{refused-room}
-use Rattle.reporting.proofs.Texts.{refused-reading, plan-lent, plan-reading}
+use Rattle.reporting.proofs.Texts.{refused-reading, refused-reading-cause, plan-lent, plan-reading, plan-reading-cause, printed-same}
 use Rattle.reporter.proofs.report_text.Statement.{statement}
 use Rattle.reporter.proofs.report_text.Tie as tie
 
 read-requires : tie.Need-read-requires
 read-requires c κs = search needs
 
-put-refused-requires : tie.Need-put-refused-requires
-put-refused-requires c κs = search refused-room
+refuse-requires : tie.Need-refuse-requires
+refuse-requires c κs = search needs
 
 same-length : tie.Need-same-length
 same-length c = search needs
@@ -19,7 +17,7 @@ same-length-2 : tie.Need-same-length-2
 same-length-2 c = search needs
 
 returns : tie.Need-returns
-returns c = search (put-same, refused-reading)
+returns c = search (needs, printed-same, refused-reading, refused-reading-cause)
 
 report-plan-requires : tie.Need-report-plan-requires
 report-plan-requires c κs = search (needs, plan-lent)
@@ -31,7 +29,7 @@ same-length-4 : tie.Need-same-length-4
 same-length-4 c = search needs
 
 returns-2 : tie.Need-returns-2
-returns-2 c = search (put-same, plan-reading)
+returns-2 c = search (needs, printed-same, plan-reading, plan-reading-cause)
 
 pub report-text-spec : {M : Type 1} → statement M
-report-text-spec = tie.close (tie.spec read-requires put-refused-requires same-length same-length-2 returns report-plan-requires same-length-3 same-length-4 returns-2)
+report-text-spec = tie.close (tie.spec read-requires refuse-requires same-length same-length-2 returns report-plan-requires same-length-3 same-length-4 returns-2)

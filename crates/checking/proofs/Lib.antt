@@ -1,0 +1,23 @@
+-- Laws of the lines of a text, and of what `check` tells of them.
+pub mod Lines
+pub mod Bad
+pub mod Ends
+pub mod Reasons
+pub mod Wording
+pub mod Told
+pub mod Words
+pub mod Taking
+pub mod Notes
+pub mod Faults
+pub mod Noting
+pub mod Layers
+pub mod Heads
+pub mod Check
+pub mod Cutting
+pub mod FirstBad
+pub mod Agreeing
+pub mod Disagreeing
+pub mod Silent
+pub mod Theorems
+pub mod Cases
+pub mod Choices

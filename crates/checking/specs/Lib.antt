@@ -1,0 +1,10 @@
+pub mod Lines
+pub mod Reasons
+pub mod Faults
+pub mod Check
+pub mod Places
+pub mod Theorems
+pub mod Cases
+pub mod Choices
+pub mod Notes
+pub mod Words

@@ -1,0 +1,150 @@
+-- Laws of the arguments: counting, comparing and finding them step by step.
+use mathlib.Core.Path.{_≡_, refl, sym, ap, ap₂, _∙_}
+use mathlib.Core.List.{List, [], _∷_}
+use mathlib.Core.Bool.{Bool, true, false, cond, _&&_}
+use Prim.Native.Nat.{ℕ, suc, _+_, _-_, _≤_, _<_}
+use native.Mathlib.Omega.{arith}
+use lib.Dec.{eqb}
+use lib.IntN.{ℤ}
+use lib.ListN.{length, getD, take, drop, drop-of-length-le}
+use borrow.Author.Tests.{eq-eqb, ne-eqb}
+use Rattle.lists.specs.Lists.{same}
+use Rattle.decimal.proofs.Places.{at-byte}
+use Rattle.outcomes.specs.Texts.{partAt}
+use Rattle.outcomes.specs.Places.{EndsAt, StartsAt}
+use Rattle.outcomes.proofs.Texts.{part-bytes}
+use Rattle.commands.specs.Commands.{mostCommands, commandWords}
+use Rattle.commands.specs.Arguments.{ended, countOf, argument, isNumber, numberOf, commandFrom, commandNumber}
+
+-- ---- how many there are
+pub ended-yes : (byte : ℕ) → byte ≡ 0 → ended byte ≡ 1
+ended-yes byte h = rw (eq-eqb byte 0 h) refl
+
+pub ended-no : (byte : ℕ) → (byte ≡ 0 → ⊥) → ended byte ≡ 0
+ended-no byte h = rw (ne-eqb byte 0 h) refl
+
+ended-few : (byte : ℕ) → ended byte ≤ 1
+ended-few byte = go (eqb byte 0)
+  where
+    go : (v : Bool) → cond v 1 0 ≤ 1
+    go true = omega arith
+    go false = omega arith
+
+module _ (args : List ℕ) where
+  -- n of them end before the place i
+  pub record Counted (n i : ℕ) : Type 0 where
+    pub inside : i ≤ length args
+    pub few : n ≤ i
+    pub rest : n + countOf (drop i args) ≡ countOf args
+
+  pub counted-none : Counted 0 0
+  counted-none = record { inside = omega arith; few = omega arith; rest = omega arith }
+
+  module _ (n i : ℕ) (c : Counted n i) where
+    pub counted-more : i < length args → (m : ℕ) → m ≡ ended (getD args i 0) → Counted (n + m) (i + 1)
+    unfolding countOf
+    counted-more h m e =
+        let g : countOf (drop i args) ≡ m + countOf (drop (i + 1) args)
+        = ap countOf (at-byte args i h) ∙ ap (λ (k : ℕ). k + countOf (drop (i + 1) args)) (sym e) in
+        record { inside = omega arith; few = omega (arith, c .few, e, ended-few (getD args i 0)); rest = omega (arith, c .rest, g) }
+
+    pub counted-all : length args ≤ i → n ≡ countOf args
+    unfolding countOf
+    counted-all h =
+        let e : countOf (drop i args) ≡ 0 = ap countOf (drop-of-length-le args h) in
+        omega (arith, c .rest, e)
+
+-- ---- whether two are the same
+pub unlike-length : (a b : List ℕ) → (length a ≡ length b → ⊥) → false ≡ same a b
+unfolding same
+unlike-length [] [] h = absurd (h refl)
+unlike-length [] (y ∷ ys) h = refl
+unlike-length (x ∷ xs) [] h = refl
+unlike-length (x ∷ xs) (y ∷ ys) h = go (eqb x y) (unlike-length xs ys (λ e. h (ap suc e)))
+  where
+    go : (t : Bool) → false ≡ same xs ys → false ≡ (t && same xs ys)
+    go true e = e
+    go false e = refl
+
+module _ (a b : List ℕ) where
+  -- they are as long as each other, and the same up to the place i
+  pub record Alike (i : ℕ) : Type 0 where
+    pub long : length a ≡ length b
+    pub inside : i ≤ length a
+    pub rest : same (drop i a) (drop i b) ≡ same a b
+
+  pub alike-none : length a ≡ length b → Alike 0
+  alike-none h = record { long = h; inside = omega arith; rest = refl }
+
+  module _ (i : ℕ) (l : Alike i) where
+    next-byte : (h : i < length a) → same (drop i a) (drop i b) ≡ (eqb (getD a i 0) (getD b i 0) && same (drop (i + 1) a) (drop (i + 1) b))
+    unfolding same
+    next-byte h = ap₂ same (at-byte a i h) (at-byte b i (omega (arith, l .long)))
+
+    pub alike-more : i < length a → getD a i 0 ≡ getD b i 0 → Alike (i + 1)
+    alike-more h e =
+        record {
+          long = l .long;
+          inside = omega arith;
+          rest = sym (next-byte h ∙ ap (λ (t : Bool). t && same (drop (i + 1) a) (drop (i + 1) b)) (eq-eqb _ _ e)) ∙ l .rest;
+        }
+
+    pub alike-not : i < length a → (getD a i 0 ≡ getD b i 0 → ⊥) → false ≡ same a b
+    alike-not h e = sym (next-byte h ∙ ap (λ (t : Bool). t && same (drop (i + 1) a) (drop (i + 1) b)) (ne-eqb _ _ e)) ∙ l .rest
+
+    pub alike-all : length a ≤ i → true ≡ same a b
+    unfolding same
+    alike-all h =
+        sym (ap₂ same (drop-of-length-le a h) (drop-of-length-le b {i = i} (omega (arith, l .long)))) ∙ l .rest
+
+-- ---- what is said of the bytes between the start and the end of a part is said of the part
+module _ (text : List ℕ) (i from end : ℕ) (s : StartsAt 0 i text from) (t : EndsAt 0 text from end) where
+  bytes : take (end - from) (drop from text) ≡ partAt 0 i text
+  bytes = part-bytes 0 text from end t ∙ s .part
+
+  pub same-part : (word : List ℕ) (v : Bool) → v ≡ same word (take (end - from) (drop from text)) → v ≡ same word (partAt 0 i text)
+  same-part word v e = e ∙ ap (same word) bytes
+
+  pub number-part : (v : Bool) → v ≡ isNumber (take (end - from) (drop from text)) → v ≡ isNumber (argument i text)
+  number-part v e = e ∙ ap isNumber bytes
+
+  pub value-part : (z : ℤ) → z ≡ numberOf (take (end - from) (drop from text)) → z ≡ numberOf (argument i text)
+  value-part z e = e ∙ ap numberOf bytes
+
+  pub command-part : (n : ℕ) → n ≡ commandNumber (take (end - from) (drop from text)) → n ≡ commandNumber (argument i text)
+  command-part n e = e ∙ ap commandNumber bytes
+
+pub command-word : (word words : List ℕ) (i : ℕ) (v : Bool) → words ≡ commandWords → v ≡ same word (partAt 0 i words) → v ≡ same word (partAt 0 i commandWords)
+command-word word words i v e f = rw e at f
+
+-- ---- which command a word is
+module _ (word : List ℕ) where
+  -- it is none of those before i
+  pub record Sought (i : ℕ) : Type 0 where
+    pub few : i ≤ mostCommands
+    pub rest : commandFrom word i (mostCommands - i) ≡ commandNumber word
+
+  pub sought-none : Sought 0
+  sought-none = record { few = omega arith; rest = refl }
+
+  module _ (i : ℕ) (s : Sought i) where
+    next-word : i < mostCommands → (v : Bool) → v ≡ same word (partAt 0 i commandWords)
+        → commandFrom word i (mostCommands - i) ≡ cond v i (commandFrom word (i + 1) (mostCommands - (i + 1)))
+    unfolding commandFrom
+    next-word h v e =
+        let k : mostCommands - i ≡ suc (mostCommands - (i + 1)) = omega arith in
+        let j : suc i ≡ i + 1 = omega arith in
+        ap (commandFrom word i) k ∙ (ap (λ (t : Bool). cond t i (commandFrom word (suc i) (mostCommands - (i + 1)))) (sym e)
+        ∙ ap (λ (n : ℕ). cond v i (commandFrom word n (mostCommands - (i + 1)))) j)
+
+    pub sought-more : i < mostCommands → (v : Bool) → v ≡ same word (partAt 0 i commandWords) → v ≡ false → Sought (i + 1)
+    sought-more h v e f = record { few = omega arith; rest = sym (next-word h false (sym f ∙ e)) ∙ s .rest }
+
+    pub sought-here : i < mostCommands → (v : Bool) → v ≡ same word (partAt 0 i commandWords) → v ≡ true → i ≡ commandNumber word
+    sought-here h v e f = sym (next-word h true (sym f ∙ e)) ∙ s .rest
+
+    pub sought-all : mostCommands ≤ i → i ≡ commandNumber word
+    unfolding commandFrom
+    sought-all h =
+        let k : 0 ≡ mostCommands - i = omega arith in
+        ap (commandFrom word i) k ∙ s .rest

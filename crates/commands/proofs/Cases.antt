@@ -1,0 +1,44 @@
+-- The cases hold, as the definitions compute them.
+use mathlib.Core.Path.{refl}
+use Rattle.lists.specs.Lists.{same}
+use Rattle.decimal.specs.Reading.{number}
+use Rattle.commands.specs.Commands.{commandWords, limits, usageLines, helpTexts, versionLine}
+use Rattle.commands.specs.Arguments.{countOf, isNumber, numberOf, boxOf, placesFrom, numbersFrom, commandFrom, looked, callOf, fits, textSource, secondSource}
+use Rattle.outcomes.specs.Texts.{upTo, behindFirst, partAt}
+use Rattle.outcomes.specs.Outcomes.{causeLines, causeText, done, misused}
+use Rattle.commands.specs.Outcomes.{commandOf}
+use Rattle.commands.specs.Cases.{Cases}
+
+pub cases : Cases
+unfolding numberOf boxOf placesFrom usageLines helpTexts versionLine causeLines causeText done misused commandOf upTo behindFirst partAt same number commandWords limits countOf isNumber numbersFrom commandFrom looked callOf fits textSource secondSource
+cases =
+    record {
+      none = record { call = refl; fitting = refl; text-from = refl; second-from = refl };
+      unknown = record { call = refl; fitting = refl; text-from = refl; second-from = refl };
+      report = record { call = refl; fitting = refl; text-from = refl; second-from = refl };
+      report-file = record { call = refl; fitting = refl; text-from = refl; second-from = refl };
+      report-number = record { call = refl; fitting = refl; text-from = refl; second-from = refl };
+      report-two = record { call = refl; fitting = refl; text-from = refl; second-from = refl };
+      check-file = record { call = refl; fitting = refl; text-from = refl; second-from = refl };
+      pairs = record { call = refl; fitting = refl; text-from = refl; second-from = refl };
+      pairs-layer = record { call = refl; fitting = refl; text-from = refl; second-from = refl };
+      pairs-file = record { call = refl; fitting = refl; text-from = refl; second-from = refl };
+      nearest = record { call = refl; fitting = refl; text-from = refl; second-from = refl };
+      nearest-number = record { call = refl; fitting = refl; text-from = refl; second-from = refl };
+      nearest-three = record { call = refl; fitting = refl; text-from = refl; second-from = refl };
+      apart = record { call = refl; fitting = refl; text-from = refl; second-from = refl };
+      classes = record { call = refl; fitting = refl; text-from = refl; second-from = refl };
+      hours-none = record { call = refl; fitting = refl; text-from = refl; second-from = refl };
+      hours-one = record { call = refl; fitting = refl; text-from = refl; second-from = refl };
+      hours-two = record { call = refl; fitting = refl; text-from = refl; second-from = refl };
+      help = record { call = refl; fitting = refl; text-from = refl; second-from = refl };
+      version = record { call = refl; fitting = refl; text-from = refl; second-from = refl };
+      box = refl;
+      layer = (refl, refl, refl);
+      places = refl;
+      usages = (refl, refl);
+      help-version = refl;
+      causes = (refl, refl, refl, refl);
+      misused-version = refl;
+      done-version = refl;
+    }

@@ -1,0 +1,129 @@
+-- The arguments of the program, as bytes: each is followed by a byte 0. Behind the command's word stand its numbers, and behind these its names.
+use mathlib.Core.List.{List, [], _∷_}
+use mathlib.Core.Option.{Option, none, some}
+use mathlib.Core.Bool.{Bool, cond, _&&_}
+use Prim.Native.Nat.{ℕ, zero, suc, _+_, _-_}
+use lib.Dec.{eqb, leb, ltb}
+use lib.IntN.{ℤ, pos, negsuc}
+use Rattle.lists.specs.Lists.{same, isSome}
+use Rattle.geometry.specs.declared.Rect.{Rect}
+use Rattle.decimal.specs.Reading.{Reading, number}
+use Rattle.outcomes.specs.Texts.{partAt}
+use Rattle.commands.specs.declared.Call.{Call}
+use Rattle.commands.specs.Commands.{mostCommands, commandWords, limit}
+
+-- how many arguments a byte ends
+abbrev pub ended : (byte : ℕ) → ℕ
+ended byte = cond (eqb byte 0) 1 0
+
+-- how many arguments there are
+unfoldable pub countOf : List ℕ → ℕ
+countOf [] = 0
+countOf (b ∷ t) = ended b + countOf t
+
+-- the argument of a number, from 0; the first is the command's word
+abbrev pub argument : (i : ℕ) → List ℕ → List ℕ
+argument i args = partAt 0 i args
+
+-- the number that a word is, spelled as in a plan text
+abbrev pub whole : Reading ℤ → Option ℤ
+whole none = none
+whole (some (z, [])) = some z
+whole (some (z, b ∷ t)) = none
+
+unfoldable pub isNumber : List ℕ → Bool
+isNumber word = isSome (whole (number word))
+
+-- the number that a word starts with, or 0
+abbrev pub valueIn : Reading ℤ → ℤ
+valueIn none = pos 0
+valueIn (some (z, t)) = z
+
+unfoldable pub numberOf : List ℕ → ℤ
+numberOf word = valueIn (number word)
+
+-- the box of the four numbers behind the command's word
+unfoldable pub boxOf : (args : List ℕ) → Rect
+boxOf args =
+    record {
+      left = numberOf (argument 1 args);
+      bottom = numberOf (argument 2 args);
+      right = numberOf (argument 3 args);
+      top = numberOf (argument 4 args);
+    }
+
+-- a number as that of a layer or a place; one below 0 is none of these
+abbrev pub naturalOf : ℤ → ℕ
+naturalOf (pos n) = n
+naturalOf (negsuc n) = 4294967295
+
+-- a layer's number, where it is from 1 on: a 0 that is given is none, so that it does not ask for all
+abbrev pub fromOne : ℕ → ℕ
+fromOne n = cond (eqb n 0) 4294967295 n
+
+-- the layer that is given behind the command's word, or 0 where none is
+abbrev pub layerIn : (numbers : ℕ) (args : List ℕ) → ℕ
+layerIn numbers args = cond (eqb numbers 0) 0 (fromOne (naturalOf (numberOf (argument 1 args))))
+
+-- the places that the n arguments from i on are
+unfoldable pub placesFrom : (args : List ℕ) (i n : ℕ) → List ℕ
+placesFrom args i zero = []
+placesFrom args i (suc n) = naturalOf (numberOf (argument i args)) ∷ placesFrom args (suc i) n
+
+-- how many of the f arguments from i on are numbers, up to the first that is none
+unfoldable pub numbersFrom : (args : List ℕ) (i f : ℕ) → ℕ
+numbersFrom args i zero = 0
+numbersFrom args i (suc f) = cond (isNumber (argument i args)) (suc (numbersFrom args (suc i) f)) 0
+
+-- the first of the f commands from i on whose word this is, or the number behind the last
+unfoldable pub commandFrom : (word : List ℕ) (i f : ℕ) → ℕ
+commandFrom word i zero = i
+commandFrom word i (suc f) = cond (same word (partAt 0 i commandWords)) i (commandFrom word (suc i) f)
+
+abbrev pub commandNumber : (word : List ℕ) → ℕ
+commandNumber word = commandFrom word 0 mostCommands
+
+-- how many of so many arguments are looked at for numbers: at most seven behind the first, since no command takes more than six
+unfoldable pub looked : (count : ℕ) → ℕ
+looked count = cond (leb count 8) (count - 1) 7
+
+-- the most numbers that a command takes; none where the word is no command's
+abbrev pub mostNumbers : (command : ℕ) → ℕ
+mostNumbers command = cond (ltb command mostCommands) (limit command 1) 0
+
+-- the lesser of two
+abbrev pub fewer : (n m : ℕ) → ℕ
+fewer n m = cond (leb n m) n m
+
+-- how many numbers there are: what stands behind as many as the command takes is a name, though it be spelled as a number
+abbrev pub numbersIn : List ℕ → ℕ
+numbersIn args = numbersFrom args 1 (fewer (mostNumbers (commandNumber (argument 0 args))) (looked (countOf args)))
+
+-- what the arguments ask for
+unfoldable pub callOf : List ℕ → Call
+callOf args =
+    let n = numbersIn args in
+    record { command = commandNumber (argument 0 args); numbers = n; names = countOf args - 1 - n }
+
+-- a number is from the low one to the high one
+abbrev pub within : (low n high : ℕ) → Bool
+within low n high = leb low n && leb n high
+
+-- the command is one, and takes as many numbers and names as there are
+unfoldable pub fits : Call → Bool
+fits c =
+    let n = c .command in
+    ltb n mostCommands && (within (limit n 0) (c .numbers) (limit n 1) && within (limit n 2) (c .names) (limit n 3))
+
+-- where the text comes from: 0 from nowhere, 1 from standard input, n above 1 from the file that the program's argument n names, its own name being
+-- argument 0: the last one, where there are more names than the command must have
+unfoldable pub textSource : List ℕ → ℕ
+textSource args =
+    let c = callOf args in
+    cond (fits c && eqb (limit (c .command) 4) 1) (cond (ltb (limit (c .command) 2) (c .names)) (countOf args) 1) 0
+
+-- where the second text comes from, likewise: from the first name, where the command must have one
+unfoldable pub secondSource : List ℕ → ℕ
+secondSource args =
+    let c = callOf args in
+    cond (fits c && ltb 0 (limit (c .command) 2)) (2 + c .numbers) 0

@@ -1,0 +1,88 @@
+-- The commands, by number from 0: their words, what they take, and what is said of them.
+use mathlib.Core.List.{List, [], _∷_, _++_}
+use Prim.Native.Nat.{ℕ, _+_, _*_}
+use lib.ListN.{getD}
+use Rattle.outcomes.specs.Texts.{ascii, partAt}
+
+-- how many there are
+abbrev pub mostCommands : ℕ
+mostCommands = 9
+
+-- the word of each, ended by byte 0
+unfoldable pub commandWords : List ℕ
+commandWords = ascii "report\0check\0pairs\0nearest\0apart\0classes\0hours\0help\0version\0"
+
+-- for each: the fewest and the most numbers behind its word, the fewest and the most names behind these, and whether it reads a text
+unfoldable pub limits : List ℕ
+limits =
+    0 ∷ 0 ∷ 0 ∷ 1 ∷ 1
+    ∷ 0 ∷ 0 ∷ 0 ∷ 1 ∷ 1
+    ∷ 0 ∷ 1 ∷ 0 ∷ 1 ∷ 1
+    ∷ 4 ∷ 4 ∷ 0 ∷ 1 ∷ 1
+    ∷ 1 ∷ 6 ∷ 0 ∷ 1 ∷ 1
+    ∷ 0 ∷ 0 ∷ 0 ∷ 1 ∷ 1
+    ∷ 0 ∷ 0 ∷ 1 ∷ 2 ∷ 1
+    ∷ 0 ∷ 0 ∷ 0 ∷ 1 ∷ 0
+    ∷ 0 ∷ 0 ∷ 0 ∷ 0 ∷ 0
+    ∷ []
+
+-- one of the five of a command
+abbrev pub limit : (command column : ℕ) → ℕ
+limit command column = getD limits (5 * command + column) 0
+
+-- how each is called, and behind them what is wanted where the word is none of theirs: a line each
+unfoldable pub usageLines : List ℕ
+usageLines =
+    ascii "wanted: overlay report [FILE]\n"
+    ++ ascii "wanted: overlay check [FILE]\n"
+    ++ ascii "wanted: overlay pairs [LAYER] [FILE]\n"
+    ++ ascii "wanted: overlay nearest LEFT BOTTOM RIGHT TOP [FILE] (whole millimetres, at most eight digits, no plus, no leading zero)\n"
+    ++ ascii "wanted: overlay apart PLACE.. [FILE], with a place for each layer\n"
+    ++ ascii "wanted: overlay classes [FILE]\n"
+    ++ ascii "wanted: overlay hours WINDOWS-FILE [FILE]\n"
+    ++ ascii "wanted: overlay help [COMMAND]\n"
+    ++ ascii "wanted: overlay version\n"
+    ++ ascii "wanted: overlay COMMAND [ARGUMENTS] [FILE], with a command of: report, check, pairs, nearest, apart, classes, hours, help, version\n"
+
+abbrev pub usage : (command : ℕ) → List ℕ
+usage command = partAt 10 command usageLines
+
+-- what `help` says of each, and behind them what it says of all; each ended by byte 0
+unfoldable pub helpTexts : List ℕ
+helpTexts =
+    ascii "overlay report [FILE]\n"
+    ++ ascii "The rows of a plan text: ROW, the layer of the left guard, the places, the area in square millimetres, the kind; then TOTAL.\n\0"
+    ++ ascii "overlay check [FILE]\n"
+    ++ ascii "Whether a text is a plan's: PLAN, layers, rectangles; or the line that is wrong and why, on standard error.\n\0"
+    ++ ascii "overlay pairs [LAYER] [FILE]\n"
+    ++ ascii "The rows of each two layers, or of each two of which one is LAYER: PAIR, both layers, both places, the area, the kind; then TOTAL.\n\0"
+    ++ ascii "overlay nearest LEFT BOTTOM RIGHT TOP [FILE]\n"
+    ++ ascii "What lies nearest to a box in each layer: NEAR, the layer, the place, the squared gap, the gap in millimetres; or NONE, the layer.\n\0"
+    ++ ascii "overlay apart PLACE.. [FILE]\n"
+    ++ ascii "Whether the rectangles at these places, one a layer, share a point: SHARE; or APART and the first two layers that do not.\n\0"
+    ++ ascii "overlay classes [FILE]\n"
+    ++ ascii "The crossing report: each ROW with its class, CLASS with each count above 0, TOTAL.\n\0"
+    ++ ascii "overlay hours WINDOWS-FILE [FILE]\n"
+    ++ ascii "The timed run of a plan text with a windows text, a line WINDOW, from, to for each rectangle: each ROW with its shared minutes, TOTAL.\n\0"
+    ++ ascii "overlay help [COMMAND]\n"
+    ++ ascii "What a command does, or all commands.\n\0"
+    ++ ascii "overlay version\n"
+    ++ ascii "The version of the program.\n\0"
+    ++ ascii "overlay COMMAND [ARGUMENTS] [FILE]\n"
+    ++ ascii "The text is the file named last, or standard input. Exit status: 0 done, 1 refused, 2 wrong arguments, 3 not read or not written.\n"
+    ++ ascii "report [FILE]                           the rows in which all layers meet\n"
+    ++ ascii "check [FILE]                            whether a text is a plan's, and what is wrong in which line\n"
+    ++ ascii "pairs [LAYER] [FILE]                    the rows of each two layers\n"
+    ++ ascii "nearest LEFT BOTTOM RIGHT TOP [FILE]    what lies nearest to a box in each layer\n"
+    ++ ascii "apart PLACE.. [FILE]                    whether rectangles, one a layer, share a point\n"
+    ++ ascii "classes [FILE]                          the rows with their classes\n"
+    ++ ascii "hours WINDOWS-FILE [FILE]               the rows that are there at the same time, with their minutes\n"
+    ++ ascii "help [COMMAND]                          what a command does\n"
+    ++ ascii "version                                 the version of the program\n\0"
+
+abbrev pub helpText : (command : ℕ) → List ℕ
+helpText command = partAt 0 command helpTexts
+
+-- what `version` says: the version of the interface that include/overlay.h has
+unfoldable pub versionLine : List ℕ
+versionLine = ascii "overlay 14\n"

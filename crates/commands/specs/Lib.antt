@@ -1,0 +1,4 @@
+pub mod Commands
+pub mod Arguments
+pub mod Outcomes
+pub mod Cases

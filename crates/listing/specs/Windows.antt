@@ -1,0 +1,88 @@
+-- The windows text of the command `hours`: a line `WINDOW`, from, to for each rectangle, in the order of the plan's cells (02, Q-12), spelled as the lines of a
+-- plan text are; and what is wrong in one, by its first line that is not as stated.
+use mathlib.Core.List.{List, [], _∷_, _++_}
+use mathlib.Core.Option.{none, some}
+use mathlib.Core.Bool.{cond}
+use Prim.Native.Nat.{ℕ, zero, suc}
+use lib.Dec.{eqb}
+use lib.IntN.{ℤ, pos, negsuc}
+use Rattle.decimal.specs.Numerals.{decimal}
+use Rattle.decimal.specs.Reading.{Reading}
+use Rattle.line.specs.Parsing.{next, behind, field}
+use Rattle.windows.specs.Windows.{isWindow}
+use Rattle.outcomes.specs.Texts.{ascii}
+use Rattle.outcomes.specs.Outcomes.{errorLine}
+use Rattle.listing.specs.declared.Fault.{Fault}
+
+-- the word WINDOW and its tab
+abbrev pub WINDOW : List ℕ
+WINDOW = 87 ∷ 73 ∷ 78 ∷ 68 ∷ 79 ∷ 87 ∷ 9 ∷ []
+
+-- the two fields of a WINDOW line
+abbrev pub windowFields : List ℕ → Reading (ℤ × ℤ)
+windowFields t =
+    next (field 9 t) (λ a.
+    next (field 10 (a .1)) (λ b.
+    some ((a .0, b .0), b .1)))
+
+-- a minute; one below 0 stands for the first behind the last, which no window has
+abbrev pub minuteOf : ℤ → ℕ
+minuteOf (pos n) = n
+minuteOf (negsuc n) = 10081
+
+-- what stands where a window is due: the window and the bytes behind it, or what is wrong: 0 the line is not well formed, 1 its window is not as stated, 3
+-- there is no line
+pub data Due : Type 0 where
+  window : (from to : ℕ) → (rest : List ℕ) → Due
+  wrong : (reason : ℕ) → Due
+
+-- the window, if it is one
+abbrev pub judged : (from to : ℕ) → (rest : List ℕ) → Due
+judged from to rest = cond (isWindow (record { from = from; to = to })) (window from to rest) (wrong 1)
+
+-- the window of two fields
+abbrev pub fieldsDue : Reading (ℤ × ℤ) → Due
+fieldsDue none = wrong 0
+fieldsDue (some p) = judged (minuteOf (p .0 .0)) (minuteOf (p .0 .1)) (p .1)
+
+-- the window at the start of a text
+unfoldable pub windowDue : List ℕ → Due
+windowDue [] = wrong 3
+windowDue (b ∷ t) = fieldsDue (next (behind WINDOW (b ∷ t)) windowFields)
+
+-- ---- a whole text, from a line on, with `due` windows to come
+-- nothing is wrong
+abbrev pub noFault : Fault
+noFault = record { reason = 0; line = 0 }
+
+-- the fault of a line, where it has one; else that of the bytes behind it
+abbrev pub faultDue : Due → (line : ℕ) → (List ℕ → Fault) → Fault
+faultDue (window from to rest) line behind = behind rest
+faultDue (wrong reason) line behind = record { reason = suc reason; line = line }
+
+-- what is wrong, and in which line first: 1 it is not well formed, 2 its window is not as stated, 3 there are more lines than rectangles, 4 fewer
+abbrev pub faultFrom : (due line : ℕ) → List ℕ → Fault
+faultFrom zero line [] = noFault
+faultFrom zero line (b ∷ t) = record { reason = 3; line = line }
+faultFrom (suc due) line t = faultDue (windowDue t) line (faultFrom due (suc line))
+
+-- a window's cells, and those of the bytes behind it
+abbrev pub hoursDue : Due → (List ℕ → List ℕ) → List ℕ
+hoursDue (window from to rest) behind = from ∷ to ∷ behind rest
+hoursDue (wrong reason) behind = []
+
+-- the cells of the windows, "from and then to"
+abbrev pub hoursFrom : (due : ℕ) → List ℕ → List ℕ
+hoursFrom zero t = []
+hoursFrom (suc due) t = hoursDue (windowDue t) (hoursFrom due)
+
+-- ---- in words
+abbrev pub reasonWords : (reason : ℕ) → List ℕ
+reasonWords reason =
+    cond (eqb reason 1) (ascii ": not WINDOW and two numbers, each behind a tab")
+    (cond (eqb reason 2) (ascii ": the window does not end behind its start within the week of 10080 minutes")
+    (cond (eqb reason 3) (ascii ": more windows than rectangles") (ascii ": fewer windows than rectangles")))
+
+-- the line on standard error
+unfoldable pub faultLine : Fault → List ℕ
+faultLine f = errorLine (ascii "windows, line " ++ (decimal (f .line) ++ reasonWords (f .reason)))

@@ -1,0 +1,95 @@
+// A windows text, read line by line.
+use decimal::Number;
+use lexer::read_field;
+use lexer::starts;
+use listing::Fault;
+use listing::Taken;
+use timekeeper::is_window;
+use windows::Window;
+ghost use mathlib.Core.Path.{_≡_};
+ghost use Prim.Native.Nat.{_*_, _≤_};
+ghost use lib.ListN.{length, drop};
+ghost use Rattle.listing.specs.Windows.{windowFields, minuteOf, fieldsDue, windowDue};
+ghost use Rattle.listing.specs.Parts.{Takes, judgedAt, ReadInto};
+
+// The first minute behind those that a window may end with.
+const NO_MINUTE: u32 = 10081;
+
+// A number as a minute; one below 0 is none of the week.
+fn minute_of(z: i32) -> u32
+    ensures { λ r. ⌜ r ≡ minuteOf z ⌝ }
+{
+    if z < 0 {
+        return NO_MINUTE;
+    }
+    z as u32
+}
+
+// A window, if it is one, and the place behind its line.
+fn judge(from: u32, to: u32, next: usize) -> Taken
+    ensures { λ r. ⌜ r ≡ judgedAt from to next ⌝ }
+{
+    if is_window(Window { from, to }) {
+        return Taken::Window(from, to, next);
+    }
+    Taken::Wrong(2)
+}
+
+// The window whose two fields stand at a place.
+fn take_fields(t: &[u8], at: usize) -> Taken
+    ensures { λ r. ⌜ Takes (now (t .entry)) (fieldsDue (windowFields (drop at (now (t .entry))))) r ⌝ }
+{
+    let Number::Value(from, a) = read_field(t, at, false) else {
+        return Taken::Wrong(1);
+    };
+    let Number::Value(to, b) = read_field(t, a, true) else {
+        return Taken::Wrong(1);
+    };
+    judge(minute_of(from), minute_of(to), b)
+}
+
+// The window whose line stands at a place.
+fn take_window(t: &[u8], at: usize) -> Taken
+    requires { ⌜ at ≤ length (now t) ⌝ }
+    ensures { λ r. ⌜ Takes (now (t .entry)) (windowDue (drop at (now (t .entry)))) r ⌝ }
+{
+    if t.len() <= at {
+        return Taken::Wrong(4);
+    }
+    if starts(t, at, b"WINDOW\t") {
+        return take_fields(t, at + 7);
+    }
+    Taken::Wrong(1)
+}
+
+// The windows of n rectangles into the first of the lent cells, and what is wrong in the text.
+pub fn read_windows(t: &[u8], n: usize, hours: &mut [u32]) -> Fault
+    requires { ⌜ (n ≤ 3072) × (2 * n ≤ length (now hours)) ⌝ }
+    ensures { λ r. ⌜ ReadInto (now (t .entry)) n (now (hours .entry)) r (now (hours .exit)) ⌝ }
+{
+    let mut at: usize = 0;
+    let mut i: usize = 0;
+    while i < n {
+        match take_window(t, at) {
+            Taken::Wrong(reason) => {
+                return Fault {
+                    reason,
+                    line: i as u32 + 1,
+                };
+            }
+            Taken::Window(from, to, next) => {
+                hours[2 * i] = from;
+                hours[2 * i + 1] = to;
+                at = next;
+            }
+        }
+        i += 1;
+    }
+    if at < t.len() {
+        return Fault {
+            reason: 3,
+            line: i as u32 + 1,
+        };
+    }
+    Fault { reason: 0, line: 0 }
+}

@@ -1,0 +1,3 @@
+-- Laws of outcomes.
+pub mod Texts
+pub mod Outcomes
