@@ -36,9 +36,10 @@ cases =
       box = refl;
       layer = (refl, refl, refl);
       places = refl;
-      usages = (refl, refl);
+      usages = (refl, refl, refl, refl, refl, refl, refl, refl, refl, refl);
+      helps = (refl, refl, refl, refl, refl, refl, refl, refl, refl);
       help-version = refl;
-      causes = (refl, refl, refl, refl);
+      causes = (refl, refl, refl, refl, refl, refl, refl, refl, refl, refl, refl, refl, refl, refl, refl, refl, refl, refl, refl, refl, refl, refl, refl, refl, refl);
       misused-version = refl;
       done-version = refl;
     }

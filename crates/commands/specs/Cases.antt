@@ -6,7 +6,7 @@ use mathlib.Core.Bool.{Bool, true, false}
 use Prim.Native.Nat.{ℕ}
 use Prim.Native.String.{String}
 use lib.IntN.{pos, negsuc}
-use Rattle.outcomes.specs.Texts.{ascii}
+use Rattle.outcomes.specs.Texts.{ascii, upTo}
 use Rattle.outcomes.specs.Outcomes.{causeText}
 use Rattle.commands.specs.Commands.{usage, helpText}
 use Rattle.commands.specs.Arguments.{boxOf, layerIn, placesFrom, callOf, fits, textSource, secondSource}
@@ -45,11 +45,55 @@ pub record Cases : Type 0 where
   pub box : boxOf (ascii "nearest\01\0-2\03\04\0") ≡ record { left = pos 1; bottom = negsuc 1; right = pos 3; top = pos 4 }
   pub layer : (layerIn 0 (ascii "pairs\0") ≡ 0) × (layerIn 1 (ascii "pairs\06\0") ≡ 6) × (layerIn 1 (ascii "pairs\00\0") ≡ 4294967295)
   pub places : placesFrom (ascii "apart\05\00\0-1\0") 1 3 ≡ 5 ∷ 0 ∷ 4294967295 ∷ []
-  -- words of the first and the last row of each table
-  pub usages : (usage 0 ≡ ascii "wanted: overlay report [FILE]") × (usage 8 ≡ ascii "wanted: overlay version")
+  -- what is wanted of each command, and where the word is none of theirs
+  pub usages : (usage 0 ≡ ascii "wanted: overlay report [FILE]")
+      × (usage 1 ≡ ascii "wanted: overlay check [FILE]")
+      × (usage 2 ≡ ascii "wanted: overlay pairs [LAYER] [FILE]")
+      × (usage 3 ≡ ascii "wanted: overlay nearest LEFT BOTTOM RIGHT TOP [FILE] (whole millimetres, at most eight digits, no plus, no leading zero)")
+      × (usage 4 ≡ ascii "wanted: overlay apart PLACE.. [FILE], with a place for each layer")
+      × (usage 5 ≡ ascii "wanted: overlay classes [FILE]")
+      × (usage 6 ≡ ascii "wanted: overlay hours WINDOWS-FILE [FILE]")
+      × (usage 7 ≡ ascii "wanted: overlay help [COMMAND]")
+      × (usage 8 ≡ ascii "wanted: overlay version")
+      × (usage 9
+      ≡ ascii "wanted: overlay COMMAND [ARGUMENTS] [FILE], with a command of: report, check, pairs, nearest, apart, classes, hours, help, version")
+  -- the help of each command begins with how it is called
+  pub helps : (upTo 10 (helpText 0) ≡ ascii "overlay report [FILE]")
+      × (upTo 10 (helpText 1) ≡ ascii "overlay check [FILE]")
+      × (upTo 10 (helpText 2) ≡ ascii "overlay pairs [LAYER] [FILE]")
+      × (upTo 10 (helpText 3) ≡ ascii "overlay nearest LEFT BOTTOM RIGHT TOP [FILE]")
+      × (upTo 10 (helpText 4) ≡ ascii "overlay apart PLACE.. [FILE]")
+      × (upTo 10 (helpText 5) ≡ ascii "overlay classes [FILE]")
+      × (upTo 10 (helpText 6) ≡ ascii "overlay hours WINDOWS-FILE [FILE]")
+      × (upTo 10 (helpText 7) ≡ ascii "overlay help [COMMAND]")
+      × (upTo 10 (helpText 8) ≡ ascii "overlay version")
   pub help-version : helpText 8 ≡ ascii "overlay version\nThe version of the program.\n"
-  pub causes : (causeText 1 ≡ ascii "the plan has not 2 to 6 layers") × (causeText 9 ≡ ascii "the text is not well formed")
-      × (causeText 13 ≡ ascii "the input has more than 65536 bytes") × (causeText 25 ≡ ascii "other")
+  -- each cause in words, and any other number
+  pub causes : (causeText 1 ≡ ascii "the plan has not 2 to 6 layers")
+      × (causeText 2 ≡ ascii "a layer has more than 512 rectangles, or more than 512 records are kept")
+      × (causeText 3 ≡ ascii "the cells are not four for each rectangle")
+      × (causeText 4 ≡ ascii "a coordinate is not from -10000000 to 10000000, left is above right or bottom above top")
+      × (causeText 5 ≡ ascii "the order is not the sweep order of the plan")
+      × (causeText 6 ≡ ascii "the ticket is none of this plan")
+      × (causeText 7 ≡ ascii "there are more rows than the table takes")
+      × (causeText 8 ≡ ascii "the order buffer has not one cell for each rectangle")
+      × (causeText 9 ≡ ascii "the text is not well formed")
+      × (causeText 10 ≡ ascii "the text is well formed, but layers or rectangles are miscounted, or a number is out of range or out of order")
+      × (causeText 11 ≡ ascii "the cells are too few")
+      × (causeText 12 ≡ ascii "the text is longer than the buffer")
+      × (causeText 13 ≡ ascii "the input has more than 65536 bytes")
+      × (causeText 14 ≡ ascii "the box has left above right, bottom above top or a coordinate out of range")
+      × (causeText 15 ≡ ascii "the plan has fewer than three layers")
+      × (causeText 16 ≡ ascii "the last two layers are not segments without a margin: flat ones in the last but one, upright ones in the last")
+      × (causeText 17 ≡ ascii "a margin is above 50000")
+      × (causeText 18 ≡ ascii "the ticket is not the newest of its run")
+      × (causeText 19 ≡ ascii "the work buffer is shorter than two cells for each row")
+      × (causeText 20 ≡ ascii "the corners are not four a record, or one is not finite, out of order or beyond ten million")
+      × (causeText 21 ≡ ascii "a stop is not finite, or the lower one of a strip is above the upper one")
+      × (causeText 22 ≡ ascii "a round has not 1 to 16 clients, or its budget or its records are wrong")
+      × (causeText 23 ≡ ascii "there is not one place for each layer, or a place is not in its layer")
+      × (causeText 24 ≡ ascii "there is not one window for each rectangle, or one does not end behind its start within the week of 10080 minutes")
+      × (causeText 25 ≡ ascii "other")
   -- status and standard error of wrong arguments and of `version`
   pub misused-version : commandOf (ascii "version\0a\0") [] [] ≡ record { status = 2; out = []; err = ascii "overlay: wanted: overlay version\n" }
   pub done-version : commandOf (ascii "version\0") [] [] ≡ record { status = 0; out = ascii "overlay 14\n"; err = [] }
