@@ -227,6 +227,28 @@ fn bench_trap(name: &str, plan: &Plan) {
     tell(&format!("{name}, {} rows", page.rows), "page", ours, &[singly, fours]);
 }
 
+/// Times the whole run of a plan that would stall a walk, beside that of a plan of the same size that would not.
+fn bench_hostile(name: &str, plan: &Plan) {
+    let (shape, cells) = (&plan.shape, &plan.cells[..]);
+    let plain = Seeds(7).sparse(&shape.sizes[..shape.k as usize], 60_000);
+    let (mut table, mut work) = (vec![0; 6_000_000], vec![0; 2_000_000]);
+    let mut run = |shape: &_, cells: &[i32]| {
+        let mut order = vec![0; cells.len() / 4];
+        assert_eq!(Library.make_order(shape, cells, &mut order), 0);
+        let mut best = (f64::MAX, 0, 0);
+        for _ in 0..5 {
+            let start = Instant::now();
+            let run = Library.run(shape, cells, black_box(&order), &mut table, &mut work);
+            assert_eq!(run.number, 0);
+            best = (best.0.min(start.elapsed().as_secs_f64() * 1e6), run.rows, run.trials);
+        }
+        best
+    };
+    let (ours, rows, trials) = run(shape, cells);
+    let (other, ..) = run(&plain.shape, &plain.cells);
+    println!("{:<36} {trials:>18} {ours:>10.0} {other:>10.0} {:>7.1}", format!("{name}, {rows} rows"), ours / other);
+}
+
 /// The heads of the columns.
 fn heads(of: &str) {
     println!(
@@ -258,6 +280,16 @@ fn main() {
     for (name, n) in [("k 6, 24, trap", 24), ("k 6, 512, trap", 512)] {
         bench_trap(name, &plans::trap(&mut Seeds(24), 6, n));
     }
+
+    println!();
+    println!("{:<36} {:>18} {:>10} {:>10} {:>7}", "run of a hostile plan, us", "trials", "ours", "plain", "ratio");
+    bench_hostile("k 6, 24, trap", &plans::trap(&mut Seeds(24), 6, 24));
+    bench_hostile("k 6, 512, trap", &plans::trap(&mut Seeds(24), 6, 512));
+    bench_hostile("k 6, 512, equal", &plans::equal(6, 512));
+    bench_hostile("k 6, 512, in the last guard", &plans::trap_with_rows(&mut Seeds(24), 6, 512, 1));
+    bench_hostile("k 6, 512, for each of a layer", &plans::trap_with_rows(&mut Seeds(24), 6, 512, 512));
+    bench_hostile("k 6, 10, all meet", &plans::all_meet(&mut Seeds(24), 6, 10));
+    bench_hostile("k 3, 100, all meet", &plans::all_meet(&mut Seeds(24), 3, 100));
 
     println!();
     println!(

@@ -30,3 +30,35 @@ pub fn trap(seeds: &mut Seeds, k: usize, n: u32) -> Plan {
     }
     Plan { shape: shape_of(&vec![n; k]), cells }
 }
+
+/// Layers of equal rectangles, and a last one that lies apart: as `trap`, with nothing to tell a combination from another.
+pub fn equal(k: usize, n: u32) -> Plan {
+    let mut cells = [-900_000, -900_000, 900_000, 900_000].repeat((k - 1) * n as usize);
+    cells.extend([950_000, 950_000, FAR, FAR].repeat(n as usize));
+    Plan { shape: shape_of(&vec![n; k]), cells }
+}
+
+/// A trap in which one rectangle of each layer reaches above the others, and the last `met` of the last layer meet these alone: a row for each of them.
+pub fn trap_with_rows(seeds: &mut Seeds, k: usize, n: u32, met: u32) -> Plan {
+    let mut plan = trap(seeds, k, n);
+    let size = n as usize;
+    for layer in 0..k - 1 {
+        plan.cells[4 * layer * size + 3] = 960_000;
+    }
+    for place in 0..size {
+        let bottom = if place + met as usize >= size { 945_000 } else { 970_000 };
+        let at = 4 * ((k - 1) * size + place);
+        plan.cells[at..at + 4].copy_from_slice(&[place as i32 - 700_000, bottom, -600_000, bottom + 10_000]);
+    }
+    plan
+}
+
+/// Layers whose rectangles all meet: a row for each combination.
+pub fn all_meet(seeds: &mut Seeds, k: usize, n: u32) -> Plan {
+    let mut cells = Vec::new();
+    for _ in 0..k as u32 * n {
+        let mut side = || seeds.between(800_001, 900_000);
+        cells.extend([-side(), -side(), side(), side()]);
+    }
+    Plan { shape: shape_of(&vec![n; k]), cells }
+}

@@ -1,0 +1,15 @@
+pub mod Spans
+pub mod Sums
+pub mod Nodes
+pub mod Sweep
+pub mod Gains
+pub mod Ends
+pub mod Growing
+pub mod Swept
+pub mod Sorted
+pub mod Lanes
+pub mod Listed
+pub mod Below
+pub mod Passing
+pub mod Walks
+pub mod Alive
