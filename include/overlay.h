@@ -97,7 +97,7 @@ enum overlay_cause {
     OVERLAY_CAUSE_LAYERS = 1,       /* the plan has not 2 to 6 layers */
     OVERLAY_CAUSE_SIZES = 2,        /* a layer has more than 512 rectangles, or one past the last has some; or more than 512 records are kept */
     OVERLAY_CAUSE_CELLS = 3,        /* the cells are not four for each rectangle */
-    OVERLAY_CAUSE_RECT = 4,         /* a coordinate is not from -10000000 to 10000000, left is above right or bottom above top */
+    OVERLAY_CAUSE_RECT = 4,         /* a coordinate is not from -10000000 to 10000000, left is greater than right or bottom greater than top */
     OVERLAY_CAUSE_ORDER = 5,        /* the order is not the sweep order of the plan */
     OVERLAY_CAUSE_TICKET = 6,       /* the ticket is none of this plan */
     OVERLAY_CAUSE_ROWS = 7,         /* there are more rows than the table takes */
@@ -107,14 +107,14 @@ enum overlay_cause {
     OVERLAY_CAUSE_ROOM = 11,        /* the cells are too few */
     OVERLAY_CAUSE_TEXT_LENGTH = 12, /* the text is longer than the buffer */
     OVERLAY_CAUSE_INPUT = 13,       /* the input has more than 65536 bytes */
-    OVERLAY_CAUSE_BOX = 14,         /* the box has left above right, bottom above top or a coordinate out of range */
+    OVERLAY_CAUSE_BOX = 14,         /* the box has left greater than right, bottom greater than top or a coordinate out of range */
     OVERLAY_CAUSE_FEW_LAYERS = 15,  /* the plan has fewer than three layers */
-    OVERLAY_CAUSE_SEGMENTS = 16,    /* the last two layers are not segments without a margin: flat ones in the last but one, upright ones in the last */
-    OVERLAY_CAUSE_MARGINS = 17,     /* a margin is above 50000, or a layer past the last has one */
+    OVERLAY_CAUSE_SEGMENTS = 16,    /* the last two layers are not segments without margin: east to west (bottom = top) in the last but one, north to south (left = right) in the last */
+    OVERLAY_CAUSE_MARGINS = 17,     /* a margin is greater than 50000, or a layer past the last has one */
     OVERLAY_CAUSE_STALE = 18,       /* the ticket is not the newest of its run, or the run record is not one sound cell */
     OVERLAY_CAUSE_WORK = 19,        /* the work buffer is shorter than two cells for each row */
     OVERLAY_CAUSE_RECORD = 20,      /* the corners are not four a record, or one is not finite, out of order or beyond ten million */
-    OVERLAY_CAUSE_STRIP = 21,       /* a stop is not finite, the lower one of a strip is above the upper one, or a kind is above 3 */
+    OVERLAY_CAUSE_STRIP = 21,       /* a stop is not finite, the lower one of a strip is greater than the upper one, or a kind is greater than 3 */
     OVERLAY_CAUSE_ROUND = 22,       /* a round has not 1 to 16 clients, or its first client, its budget or its records are wrong */
     OVERLAY_CAUSE_PLACES = 23,      /* there is not one place for each layer, or a place is not in its layer */
     OVERLAY_CAUSE_HOURS = 24        /* there is not one window for each rectangle, or one does not end behind its start within the week of 10080 minutes */
@@ -398,7 +398,7 @@ static inline const char *overlay_cause_text(uint32_t number)
     case OVERLAY_CAUSE_CELLS:
         return "the cells are not four for each rectangle";
     case OVERLAY_CAUSE_RECT:
-        return "a coordinate is not from -10000000 to 10000000, left is above right or bottom above top";
+        return "a coordinate is not from -10000000 to 10000000, left is greater than right or bottom greater than top";
     case OVERLAY_CAUSE_ORDER:
         return "the order is not the sweep order of the plan";
     case OVERLAY_CAUSE_TICKET:
@@ -418,13 +418,13 @@ static inline const char *overlay_cause_text(uint32_t number)
     case OVERLAY_CAUSE_INPUT:
         return "the input has more than 65536 bytes";
     case OVERLAY_CAUSE_BOX:
-        return "the box has left above right, bottom above top or a coordinate out of range";
+        return "the box has left greater than right, bottom greater than top or a coordinate out of range";
     case OVERLAY_CAUSE_FEW_LAYERS:
         return "the plan has fewer than three layers";
     case OVERLAY_CAUSE_SEGMENTS:
-        return "the last two layers are not segments without a margin: flat ones in the last but one, upright ones in the last";
+        return "the last two layers are not segments without margin: east to west (bottom = top) in the last but one, north to south (left = right) in the last";
     case OVERLAY_CAUSE_MARGINS:
-        return "a margin is above 50000, or a layer past the last has one";
+        return "a margin is greater than 50000, or a layer past the last has one";
     case OVERLAY_CAUSE_STALE:
         return "the ticket is not the newest of its run, or the run record is not one sound cell";
     case OVERLAY_CAUSE_WORK:
@@ -432,7 +432,7 @@ static inline const char *overlay_cause_text(uint32_t number)
     case OVERLAY_CAUSE_RECORD:
         return "the corners are not four a record, or one is not finite, out of order or beyond ten million";
     case OVERLAY_CAUSE_STRIP:
-        return "a stop is not finite, the lower one of a strip is above the upper one, or a kind is above 3";
+        return "a stop is not finite, the lower one of a strip is greater than the upper one, or a kind is greater than 3";
     case OVERLAY_CAUSE_ROUND:
         return "a round has not 1 to 16 clients, or its first client, its budget or its records are wrong";
     case OVERLAY_CAUSE_PLACES:

@@ -13,7 +13,7 @@ pub enum Cause {
     Sizes = 2,
     /// The cells are not four for each rectangle.
     Cells = 3,
-    /// A coordinate is not from -10000000 to 10000000, left is above right or bottom above top.
+    /// A coordinate is not from -10000000 to 10000000, left is greater than right or bottom greater than top.
     Rect = 4,
     /// The order is not the sweep order of the plan.
     Order = 5,
@@ -33,13 +33,13 @@ pub enum Cause {
     TextLength = 12,
     /// The input has more than 65536 bytes.
     Input = 13,
-    /// The box has left above right, bottom above top or a coordinate out of range.
+    /// The box has left greater than right, bottom greater than top or a coordinate out of range.
     Box = 14,
     /// The plan has fewer than three layers.
     FewLayers = 15,
-    /// The last two layers are not segments without a margin: flat ones in the last but one, upright ones in the last.
+    /// The last two layers are not segments without margin: east to west (bottom = top) in the last but one, north to south (left = right) in the last.
     Segments = 16,
-    /// A margin is above 50000, or a layer past the last has one.
+    /// A margin is greater than 50000, or a layer past the last has one.
     Margins = 17,
     /// The ticket is not the newest of its run, or the run record is not one sound cell.
     Stale = 18,
@@ -47,7 +47,7 @@ pub enum Cause {
     Work = 19,
     /// The corners are not four a record, or one is not finite, out of order or beyond ten million.
     Record = 20,
-    /// A stop is not finite, the lower one of a strip is above the upper one, or a kind is above 3.
+    /// A stop is not finite, the lower one of a strip is greater than the upper one, or a kind is greater than 3.
     Strip = 21,
     /// A round has not 1 to 16 clients, or its first client, its budget or its records are wrong.
     Round = 22,
@@ -114,7 +114,7 @@ impl Cause {
             Cause::Layers => "the plan has not 2 to 6 layers",
             Cause::Sizes => "a layer has more than 512 rectangles, or one past the last has some; or more than 512 records are kept",
             Cause::Cells => "the cells are not four for each rectangle",
-            Cause::Rect => "a coordinate is not from -10000000 to 10000000, left is above right or bottom above top",
+            Cause::Rect => "a coordinate is not from -10000000 to 10000000, left is greater than right or bottom greater than top",
             Cause::Order => "the order is not the sweep order of the plan",
             Cause::Ticket => "the ticket is none of this plan",
             Cause::Rows => "there are more rows than the table takes",
@@ -124,14 +124,14 @@ impl Cause {
             Cause::Room => "the cells are too few",
             Cause::TextLength => "the text is longer than the buffer",
             Cause::Input => "the input has more than 65536 bytes",
-            Cause::Box => "the box has left above right, bottom above top or a coordinate out of range",
+            Cause::Box => "the box has left greater than right, bottom greater than top or a coordinate out of range",
             Cause::FewLayers => "the plan has fewer than three layers",
-            Cause::Segments => "the last two layers are not segments without a margin: flat ones in the last but one, upright ones in the last",
-            Cause::Margins => "a margin is above 50000, or a layer past the last has one",
+            Cause::Segments => "the last two layers are not segments without margin: east to west (bottom = top) in the last but one, north to south (left = right) in the last",
+            Cause::Margins => "a margin is greater than 50000, or a layer past the last has one",
             Cause::Stale => "the ticket is not the newest of its run, or the run record is not one sound cell",
             Cause::Work => "the work buffer is shorter than two cells for each row",
             Cause::Record => "the corners are not four a record, or one is not finite, out of order or beyond ten million",
-            Cause::Strip => "a stop is not finite, the lower one of a strip is above the upper one, or a kind is above 3",
+            Cause::Strip => "a stop is not finite, the lower one of a strip is greater than the upper one, or a kind is greater than 3",
             Cause::Round => "a round has not 1 to 16 clients, or its first client, its budget or its records are wrong",
             Cause::Places => "there is not one place for each layer, or a place is not in its layer",
             Cause::Hours => "there is not one window for each rectangle, or one does not end behind its start within the week of 10080 minutes",

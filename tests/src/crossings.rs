@@ -258,7 +258,7 @@ fn layer(seeds: &mut Seeds, thin: Option<bool>) -> Vec<[i32; 4]> {
 }
 
 /// A drawn plan of k layers whose last two hold segments, some of length 0.
-fn drawn(seeds: &mut Seeds, k: usize) -> Plan {
+pub fn drawn(seeds: &mut Seeds, k: usize) -> Plan {
     let layers: Vec<_> = (1..=k)
         .map(|j| layer(seeds, if j + 1 == k { Some(true) } else { (j == k).then_some(false) }))
         .collect();

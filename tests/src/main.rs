@@ -1,11 +1,13 @@
 //! Compares the reference with wrong overlays, each of which must be caught, and with itself.
 
 use overlay_tests::checks::{check, compare_checks, ByWords as CheckByWords, SLIPS as CHECK_SLIPS};
+use overlay_tests::commands::{answer, ByWords as CommandsByWords, SLIPS as COMMAND_SLIPS};
 use overlay_tests::compare::{compare, Tally};
 use overlay_tests::crossings::{compare_crossings, ByWords, SLIPS as CROSSING_SLIPS};
 use overlay_tests::hours::{compare_hours, ByWords as HoursByWords, SLIPS as HOURS_SLIPS};
 use overlay_tests::laws::{try_laws, LAWLESS, LAWS, WRONG_LAWS};
 use overlay_tests::nearest::{compare_nearest, nearest, WRONG_NEAREST};
+use overlay_tests::program::compare_programs;
 use overlay_tests::reference::{report, REFERENCE};
 use overlay_tests::reports::compare_reports;
 use overlay_tests::rounds::{compare_rounds, round, ByWords as RoundByWords, SLIPS as ROUND_SLIPS};
@@ -103,6 +105,16 @@ fn catch_wrong_checks() {
     }
 }
 
+/// Every wrong program must differ from the right one somewhere.
+fn catch_wrong_programs() {
+    for (slip, name) in COMMAND_SLIPS {
+        match compare_programs(&|asked| CommandsByWords(Some(slip)).answer(asked), &answer) {
+            Err(found) => println!("wrong program caught after {} cases: {name}", found.cases),
+            Ok(_) => stop(&format!("wrong program not caught: {name}")),
+        }
+    }
+}
+
 /// Every wrong statement must be shown wrong by the reference, and every lawless overlay by the laws.
 fn catch_wrong_laws() {
     for (wrong, name) in WRONG_LAWS {
@@ -132,6 +144,7 @@ fn compare_with_itself() -> Tally {
     let hours = compare_hours(&HoursByWords(None), &HoursByWords(None));
     tally.add("hours", hours.unwrap_or_else(|found| stop(&found.text)));
     tally.add("checks", compare_checks(&check, &check).unwrap_or_else(|found| stop(&found.text)));
+    tally.add("program", compare_programs(&answer, &answer).unwrap_or_else(|found| stop(&found.text)));
     tally.add("laws", try_laws(&REFERENCE, &LAWS).unwrap_or_else(|found| stop(&found.text)));
     tally
 }
@@ -146,6 +159,7 @@ fn main() {
     catch_wrong_rounds();
     catch_wrong_hours();
     catch_wrong_checks();
+    catch_wrong_programs();
     catch_wrong_laws();
     print!("{}", compare_with_itself());
 }

@@ -1,12 +1,16 @@
 //! The declarations of the C interface say the same: the header, the library's exported functions, and the extern block of the Rust crate. Header, manual, Rust
 //! crate and Python module tell the causes in the same words, and have the same version and limits.
 
+use overlay_tests::commands::{cause_words, version, OWN_WORDS};
+
 const HEADER: &str = include_str!("../../include/overlay.h");
 const LIBRARY: &str = include_str!("../../crates/capi/src/lib.rt");
 const WRAPPER: &str = include_str!("../../rust/src/sys.rs");
 const CAUSES: &str = include_str!("../../rust/src/cause.rs");
 const CRATE: &str = include_str!("../../rust/src/lib.rs");
 const MODULE: &str = include_str!("../../python/overlay.py");
+const PROGRAM: &str = include_str!("../../crates/outcomes/specs/Outcomes.antt");
+const COMMANDS: &str = include_str!("../../crates/commands/specs/Commands.antt");
 const MANUAL: &str = include_str!("../../docs/MANUAL.md");
 const INTEGRATORS: &str = include_str!("../../docs/INTEGRATORS.md");
 
@@ -286,6 +290,22 @@ fn causes_are_told_in_the_same_words() {
     assert_eq!(words, in_manual(INTEGRATORS));
     assert_eq!(words, in_crate(CAUSES));
     assert_eq!(words, in_module(MODULE));
+}
+
+/// The words of the program, a line each, from 1.
+fn in_program(text: &str) -> Vec<String> {
+    let list = between(text, "causeLines = ", "\n\n");
+    list.split('"').skip(3).step_by(2).map(|line| line.trim_end_matches("\\n").to_string()).collect()
+}
+
+#[test]
+fn the_program_tells_causes_in_the_same_words_or_in_its_own() {
+    let words = in_program(PROGRAM);
+    assert_eq!(words, (1..25).map(cause_words).collect::<Vec<_>>());
+    let other: Vec<u32> =
+        (1..25).filter(|&n| words[n as usize - 1] != in_enum(HEADER)[n as usize - 1]).collect();
+    assert_eq!(other, OWN_WORDS.map(|(number, _)| number));
+    assert!(COMMANDS.contains(&format!("versionLine = ascii \"overlay {}\\n\"", version())));
 }
 
 /// A name in capitals, its words parted: `FewLayers` and `FEW_LAYERS` are `FEW_LAYERS`.

@@ -1,6 +1,9 @@
 // The arguments: bytes, each argument followed by a byte 0.
+use crate::limits::MOST_COMMANDS;
+use crate::limits::limit_of;
+use crate::limits::limit_or;
+use crate::stops::takes_number;
 use crate::texts::command_words;
-use crate::texts::limit_table;
 use commands::Call;
 use decimal::Number;
 use geometry::Rect;
@@ -12,12 +15,9 @@ ghost use Prim.Native.Nat.{_-_, _≤_, _<_};
 ghost use lib.ListN.{length};
 ghost use Rattle.lists.specs.Lists.{same};
 ghost use Rattle.outcomes.specs.Texts.{partAt};
-ghost use Rattle.commands.specs.Commands.{mostCommands, commandWords, limit};
+ghost use Rattle.commands.specs.Commands.{commandWords};
 ghost use Rattle.commands.specs.Arguments.{ended, countOf, argument, isNumber, numberOf, boxOf, naturalOf, layerIn, placesFrom};
-ghost use Rattle.commands.specs.Arguments.{numbersFrom, commandNumber, looked, mostNumbers, fewer, callOf, within, fits};
-
-// How many commands there are.
-pub const MOST_COMMANDS: u32 = 9;
+ghost use Rattle.commands.specs.Arguments.{numbersFrom, commandNumber, looked, fewer, numbersIn, callOf, within, fits};
 
 // How many arguments there are.
 pub fn count_arguments(arguments: &[u8]) -> usize
@@ -43,7 +43,7 @@ fn ends(byte: u8) -> usize
 }
 
 // Whether two runs of bytes are the same.
-fn same_bytes(a: &[u8], b: &[u8]) -> bool
+pub fn same_bytes(a: &[u8], b: &[u8]) -> bool
     ensures { λ r. ⌜ r ≡ same (now (a .entry)) (now (b .entry)) ⌝ }
 {
     if a.len() != b.len() {
@@ -100,7 +100,7 @@ pub fn named_command(arguments: &[u8], i: u32) -> u32
 }
 
 // Whether a word is a number, spelled as in a plan text.
-fn is_number(word: &[u8]) -> bool
+pub fn is_number(word: &[u8]) -> bool
     ensures { λ r. ⌜ r ≡ isNumber (now (word .entry)) ⌝ }
 {
     match read_number(word, 0) {
@@ -110,7 +110,7 @@ fn is_number(word: &[u8]) -> bool
 }
 
 // Whether an argument is a number.
-fn names_number(arguments: &[u8], i: u32) -> bool
+pub fn names_number(arguments: &[u8], i: u32) -> bool
     ensures { λ r. ⌜ r ≡ isNumber (argument i (now (arguments .entry))) ⌝ }
 {
     let from = part_from(arguments, i, 0);
@@ -196,14 +196,14 @@ pub fn fill_places(arguments: &[u8], places: &mut [u32])
     }
 }
 
-// How many of the first arguments behind the command's word, at most so many, are numbers.
-fn count_numbers(arguments: &[u8], most: u32) -> u32
+// How many of the first arguments behind the command's word, at most so many, are taken for numbers; 1 says that `-` may stand for one.
+fn count_numbers(dash: usize, arguments: &[u8], most: u32) -> u32
     requires { ⌜ most ≤ 7 ⌝ }
-    ensures { λ r. ⌜ (r ≡ numbersFrom (now (arguments .entry)) 1 most) × (r ≤ most) ⌝ }
+    ensures { λ r. ⌜ (r ≡ numbersFrom dash (now (arguments .entry)) 1 most) × (r ≤ most) ⌝ }
 {
     let mut n: u32 = 0;
     while n < most {
-        if !names_number(arguments, n + 1) {
+        if !takes_number(dash, arguments, n + 1) {
             return n;
         }
         n += 1;
@@ -224,16 +224,6 @@ fn looked_at(count: usize) -> u32
     7
 }
 
-// The most numbers that a command takes; none where it is no command's number.
-fn most_numbers(command: u32) -> usize
-    ensures { λ r. ⌜ r ≡ mostNumbers command ⌝ }
-{
-    if MOST_COMMANDS <= command {
-        return 0;
-    }
-    limit_of(command, 1)
-}
-
 // The lesser of two.
 fn fewer_of(n: usize, m: u32) -> u32
     ensures { λ r. ⌜ (r ≡ fewer n m) × (r ≤ m) ⌝ }
@@ -244,14 +234,23 @@ fn fewer_of(n: usize, m: u32) -> u32
     m
 }
 
+// How many numbers there are behind the word of a command, where there are so many arguments.
+fn numbers_of(command: u32, arguments: &[u8], count: usize) -> usize
+    requires { ⌜ count ≡ countOf (now arguments) ⌝ }
+    ensures { λ r. ⌜ (r ≡ numbersIn command (now (arguments .entry))) × (r ≤ 7) × (r ≤ count - 1) ⌝ }
+{
+    let most = fewer_of(limit_or(command, 1), looked_at(count));
+    let dash = limit_or(command, 5);
+    count_numbers(dash, arguments, most) as usize
+}
+
 // What the arguments ask for.
 pub fn call_of(arguments: &[u8]) -> Call
     ensures { λ r. ⌜ (r ≡ callOf (now (arguments .entry))) × (r .numbers ≤ 7) ⌝ }
 {
     let count = count_arguments(arguments);
     let command = named_command(arguments, 0);
-    let most = fewer_of(most_numbers(command), looked_at(count));
-    let numbers = count_numbers(arguments, most) as usize;
+    let numbers = numbers_of(command, arguments, count);
     let names = rest_of(count, numbers);
     Call {
         command,
@@ -269,16 +268,6 @@ fn rest_of(count: usize, numbers: usize) -> usize
         return 0;
     }
     count - 1 - numbers
-}
-
-// One of the five limits of a command.
-pub fn limit_of(command: u32, column: u32) -> usize
-    requires { ⌜ (command < mostCommands) × (column ≤ 4) ⌝ }
-    ensures { λ r. ⌜ r ≡ limit command column ⌝ }
-{
-    let table = limit_table();
-    let i = (5 * command + column) as usize;
-    table[i]
 }
 
 // Whether a number is from the low one to the high one.

@@ -2,7 +2,7 @@
 use crate::arguments::call_of;
 use crate::arguments::count_arguments;
 use crate::arguments::is_fit;
-use crate::arguments::limit_of;
+use crate::limits::limit_of;
 ghost use mathlib.Core.Path.{_≡_};
 ghost use Rattle.commands.specs.Arguments.{textSource, secondSource};
 

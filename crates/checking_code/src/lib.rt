@@ -17,7 +17,6 @@ use printer::put_last;
 use printer::put_refused;
 use reader::read;
 use reasons::reason_of;
-use seek::line_end;
 use seek::seek;
 use speller::put_word;
 use words::put_line_error;
@@ -37,6 +36,11 @@ ghost use Rattle.outcomes.specs.Rooms.{Room, roomForAll, roomForWords};
 ghost use Rattle.checking.specs.Lines.{badLine};
 ghost use Rattle.checking.specs.Places.{PutWords};
 ghost use Rattle.checking.specs.Check.{planFound, badError, whyLines, checkOf};
+pub use reasons::has;
+pub use reasons::leading_zero;
+pub use reasons::long_number;
+pub use seek::line_end;
+pub use words::put_part;
 
 // The longest input.
 const LONGEST_INPUT: usize = 65536;

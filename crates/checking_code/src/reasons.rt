@@ -43,7 +43,7 @@ const NO_LINE: u32 = 13;
 const NO_END: u32 = 14;
 
 // Whether a byte stands in a line from a place on.
-fn has(l: &[u8], from: usize, byte: u8) -> bool
+pub fn has(l: &[u8], from: usize, byte: u8) -> bool
     requires { ⌜ from ≤ length (now l) ⌝ }
     ensures { λ r. ⌜ r ≡ has byte (drop from (now (l .entry))) ⌝ }
 {
@@ -96,7 +96,7 @@ fn zero_leads(l: &[u8], i: usize, before: u8) -> bool
 }
 
 // Whether a number of a line has a leading zero.
-fn leading_zero(l: &[u8]) -> bool
+pub fn leading_zero(l: &[u8]) -> bool
     ensures { λ r. ⌜ r ≡ leadingZero 0 (now (l .entry)) ⌝ }
 {
     let mut before: u8 = 0;
@@ -123,7 +123,7 @@ fn run_on(run: usize, b: u8) -> usize
 }
 
 // Whether nine digits or more stand in a row in a line.
-fn long_number(l: &[u8]) -> bool
+pub fn long_number(l: &[u8]) -> bool
     ensures { λ r. ⌜ r ≡ longNumber 0 (now (l .entry)) ⌝ }
 {
     let mut run: usize = 0;

@@ -54,7 +54,7 @@ fn put_reason(err: &mut [u8], at: usize, reason: u32) -> usize
 }
 
 // A line of a text by its number, from 0; the place behind it.
-fn put_part(buf: &mut [u8], at: usize, text: &[u8], n: u32) -> usize
+pub fn put_part(buf: &mut [u8], at: usize, text: &[u8], n: u32) -> usize
     requires { ⌜ FitsAt (now buf) at (partAt 10 n (now text) ++ 10 ∷ []) ⌝ }
     ensures { λ r. ⌜ Put (now (buf .entry)) at (partAt 10 n (now (text .entry)) ++ 10 ∷ []) (now (buf .exit)) r ⌝ }
 {

@@ -1,7 +1,7 @@
--- Laws of the arguments: counting, comparing and finding them step by step.
-use mathlib.Core.Path.{_≡_, refl, sym, ap, ap₂, _∙_}
-use mathlib.Core.List.{List, [], _∷_}
-use mathlib.Core.Bool.{Bool, true, false, cond, _&&_}
+-- Laws of the arguments: counting and finding them step by step.
+use mathlib.Core.Path.{_≡_, refl, sym, ap, _∙_}
+use mathlib.Core.List.{List}
+use mathlib.Core.Bool.{Bool, true, false, cond}
 use Prim.Native.Nat.{ℕ, suc, _+_, _-_, _≤_, _<_}
 use native.Mathlib.Omega.{arith}
 use lib.Dec.{eqb}
@@ -14,7 +14,7 @@ use Rattle.outcomes.specs.Texts.{partAt}
 use Rattle.outcomes.specs.Places.{EndsAt, StartsAt}
 use Rattle.outcomes.proofs.Texts.{part-bytes}
 use Rattle.commands.specs.Commands.{mostCommands, commandWords}
-use Rattle.commands.specs.Arguments.{ended, countOf, argument, isNumber, numberOf, commandFrom, commandNumber}
+use Rattle.commands.specs.Arguments.{ended, countOf, argument, isNumber, isTaken, numberOf, commandFrom, commandNumber}
 
 -- ---- how many there are
 pub ended-yes : (byte : ℕ) → byte ≡ 0 → ended byte ≡ 1
@@ -54,49 +54,6 @@ module _ (args : List ℕ) where
         let e : countOf (drop i args) ≡ 0 = ap countOf (drop-of-length-le args h) in
         omega (arith, c .rest, e)
 
--- ---- whether two are the same
-pub unlike-length : (a b : List ℕ) → (length a ≡ length b → ⊥) → false ≡ same a b
-unfolding same
-unlike-length [] [] h = absurd (h refl)
-unlike-length [] (y ∷ ys) h = refl
-unlike-length (x ∷ xs) [] h = refl
-unlike-length (x ∷ xs) (y ∷ ys) h = go (eqb x y) (unlike-length xs ys (λ e. h (ap suc e)))
-  where
-    go : (t : Bool) → false ≡ same xs ys → false ≡ (t && same xs ys)
-    go true e = e
-    go false e = refl
-
-module _ (a b : List ℕ) where
-  -- they are as long as each other, and the same up to the place i
-  pub record Alike (i : ℕ) : Type 0 where
-    pub long : length a ≡ length b
-    pub inside : i ≤ length a
-    pub rest : same (drop i a) (drop i b) ≡ same a b
-
-  pub alike-none : length a ≡ length b → Alike 0
-  alike-none h = record { long = h; inside = omega arith; rest = refl }
-
-  module _ (i : ℕ) (l : Alike i) where
-    next-byte : (h : i < length a) → same (drop i a) (drop i b) ≡ (eqb (getD a i 0) (getD b i 0) && same (drop (i + 1) a) (drop (i + 1) b))
-    unfolding same
-    next-byte h = ap₂ same (at-byte a i h) (at-byte b i (omega (arith, l .long)))
-
-    pub alike-more : i < length a → getD a i 0 ≡ getD b i 0 → Alike (i + 1)
-    alike-more h e =
-        record {
-          long = l .long;
-          inside = omega arith;
-          rest = sym (next-byte h ∙ ap (λ (t : Bool). t && same (drop (i + 1) a) (drop (i + 1) b)) (eq-eqb _ _ e)) ∙ l .rest;
-        }
-
-    pub alike-not : i < length a → (getD a i 0 ≡ getD b i 0 → ⊥) → false ≡ same a b
-    alike-not h e = sym (next-byte h ∙ ap (λ (t : Bool). t && same (drop (i + 1) a) (drop (i + 1) b)) (ne-eqb _ _ e)) ∙ l .rest
-
-    pub alike-all : length a ≤ i → true ≡ same a b
-    unfolding same
-    alike-all h =
-        sym (ap₂ same (drop-of-length-le a h) (drop-of-length-le b {i = i} (omega (arith, l .long)))) ∙ l .rest
-
 -- ---- what is said of the bytes between the start and the end of a part is said of the part
 module _ (text : List ℕ) (i from end : ℕ) (s : StartsAt 0 i text from) (t : EndsAt 0 text from end) where
   bytes : take (end - from) (drop from text) ≡ partAt 0 i text
@@ -107,6 +64,9 @@ module _ (text : List ℕ) (i from end : ℕ) (s : StartsAt 0 i text from) (t : 
 
   pub number-part : (v : Bool) → v ≡ isNumber (take (end - from) (drop from text)) → v ≡ isNumber (argument i text)
   number-part v e = e ∙ ap isNumber bytes
+
+  pub taken-part : (dash : ℕ) (v : Bool) → v ≡ isTaken dash (take (end - from) (drop from text)) → v ≡ isTaken dash (argument i text)
+  taken-part dash v e = e ∙ ap (isTaken dash) bytes
 
   pub value-part : (z : ℤ) → z ≡ numberOf (take (end - from) (drop from text)) → z ≡ numberOf (argument i text)
   value-part z e = e ∙ ap numberOf bytes

@@ -10,20 +10,26 @@ use borrow.Author.Tests.{eq-eqb, ne-eqb, le-leb, lt-leb, lt-ltb, le-ltb, ltb-tru
 use Rattle.lists.proofs.Tests.{both}
 use Rattle.commands.specs.declared.Call.{Call}
 use Rattle.commands.specs.Commands.{mostCommands, limits, limit}
-use Rattle.commands.specs.Arguments.{countOf, argument, numbersFrom, commandNumber, looked, mostNumbers, fewer, callOf, within, fits, textSource, secondSource}
+use Rattle.commands.specs.Arguments.{countOf, argument, numbersFrom, commandNumber, looked, limitOr, fewer, numbersIn, callOf, within, fits, textSource, secondSource}
 
 -- ---- what the arguments ask for
-pub call-is : (args : List ℕ) (count seen takes most numbers names command : ℕ) → count ≡ countOf args → seen ≡ looked count
-    → takes ≡ mostNumbers command → most ≡ fewer takes seen → numbers ≡ numbersFrom args 1 most
+pub numbers-are : (args : List ℕ) (command count seen takes dash most numbers : ℕ) → count ≡ countOf args → seen ≡ looked count → takes ≡ limitOr command 1
+    → dash ≡ limitOr command 5 → most ≡ fewer takes seen → numbers ≡ numbersFrom dash args 1 most → numbers ≡ numbersIn command args
+unfolding numbersIn
+numbers-are args command count seen takes dash most numbers e k t d m f = rw (f, m, t, d, k, e)
+
+pub call-is : (args : List ℕ) (count numbers names command : ℕ) → count ≡ countOf args → numbers ≡ numbersIn command args
     → command ≡ commandNumber (argument 0 args) → names ≡ count - 1 - numbers → record { command = command; numbers = numbers; names = names } ≡ callOf args
 unfolding callOf
-call-is args count seen takes most numbers names command e k t m f g h = rw (h, f, m, t, g, k, e)
+call-is args count numbers names command e f g h = rw (h, f, g, e)
 
-pub takes-none : (command : ℕ) → mostCommands ≤ command → 0 ≡ mostNumbers command
-takes-none command h = rw (le-ltb command mostCommands h) refl
+pub limit-none : (command column : ℕ) → mostCommands ≤ command → 0 ≡ limitOr command column
+unfolding limitOr
+limit-none command column h = rw (le-ltb command mostCommands h) refl
 
-pub takes-some : (command n : ℕ) → command < mostCommands → n ≡ limit command 1 → n ≡ mostNumbers command
-takes-some command n h e = e ∙ sym (rw (lt-ltb command mostCommands h) refl)
+pub limit-some : (command column n : ℕ) → command < mostCommands → n ≡ limit command column → n ≡ limitOr command column
+unfolding limitOr
+limit-some command column n h e = e ∙ sym (rw (lt-ltb command mostCommands h) refl)
 
 pub fewer-first : (n m : ℕ) → n ≤ m → n ≡ fewer n m
 fewer-first n m h = rw (le-leb n m h) refl
@@ -53,7 +59,7 @@ module _ (c : Call) where
     unfolding fits
     fits-names low' high' w k e' f' g' = rw (lt-ltb (c .command) mostCommands h, ← e, ← f, ← g, not-false v k, ← e', ← f', ← g') refl
 
-pub limit-is : (table : List ℕ) (command column : ℕ) → table ≡ limits → getD table (5 * command + column) 0 ≡ limit command column
+pub limit-is : (table : List ℕ) (command column : ℕ) → table ≡ limits → getD table (6 * command + column) 0 ≡ limit command column
 limit-is table command column e = rw e refl
 
 -- a call that fits is of a command

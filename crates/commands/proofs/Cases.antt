@@ -3,14 +3,14 @@ use mathlib.Core.Path.{refl}
 use Rattle.lists.specs.Lists.{same}
 use Rattle.decimal.specs.Reading.{number}
 use Rattle.commands.specs.Commands.{commandWords, limits, usageLines, helpTexts, versionLine}
-use Rattle.commands.specs.Arguments.{countOf, isNumber, numberOf, boxOf, placesFrom, numbersFrom, commandFrom, looked, callOf, fits, textSource, secondSource}
+use Rattle.commands.specs.Arguments.{countOf, isNumber, isTaken, numberOf, boxOf, placesFrom, numbersFrom, commandFrom, looked, limitOr, numbersIn, callOf, fits, textSource, secondSource}
 use Rattle.outcomes.specs.Texts.{upTo, behindFirst, partAt}
 use Rattle.outcomes.specs.Outcomes.{causeLines, causeText, done, misused}
 use Rattle.commands.specs.Outcomes.{commandOf}
 use Rattle.commands.specs.Cases.{Cases}
 
 pub cases : Cases
-unfolding numberOf boxOf placesFrom usageLines helpTexts versionLine causeLines causeText done misused commandOf upTo behindFirst partAt same number commandWords limits countOf isNumber numbersFrom commandFrom looked callOf fits textSource secondSource
+unfolding numberOf boxOf placesFrom usageLines helpTexts versionLine causeLines causeText done misused commandOf upTo behindFirst partAt same number commandWords limits countOf isNumber isTaken numbersFrom commandFrom looked limitOr numbersIn callOf fits textSource secondSource
 cases =
     record {
       none = record { call = refl; fitting = refl; text-from = refl; second-from = refl };
@@ -31,13 +31,21 @@ cases =
       hours-none = record { call = refl; fitting = refl; text-from = refl; second-from = refl };
       hours-one = record { call = refl; fitting = refl; text-from = refl; second-from = refl };
       hours-two = record { call = refl; fitting = refl; text-from = refl; second-from = refl };
+      cover = record { call = refl; fitting = refl; text-from = refl; second-from = refl };
+      cover-file = record { call = refl; fitting = refl; text-from = refl; second-from = refl };
+      cover-three = record { call = refl; fitting = refl; text-from = refl; second-from = refl };
+      cover-word = record { call = refl; fitting = refl; text-from = refl; second-from = refl };
+      nearest-dash = record { call = refl; fitting = refl; text-from = refl; second-from = refl };
+      picture-file = record { call = refl; fitting = refl; text-from = refl; second-from = refl };
       help = record { call = refl; fitting = refl; text-from = refl; second-from = refl };
       version = record { call = refl; fitting = refl; text-from = refl; second-from = refl };
       box = refl;
       layer = (refl, refl, refl);
+      given = (refl, refl);
+      stops = refl;
       places = refl;
-      usages = (refl, refl, refl, refl, refl, refl, refl, refl, refl, refl);
-      helps = (refl, refl, refl, refl, refl, refl, refl, refl, refl);
+      usages = (refl, refl, refl, refl, refl, refl, refl, refl, refl, refl, refl, refl);
+      helps = (refl, refl, refl, refl, refl, refl, refl, refl, refl, refl, refl);
       help-version = refl;
       causes = (refl, refl, refl, refl, refl, refl, refl, refl, refl, refl, refl, refl, refl, refl, refl, refl, refl, refl, refl, refl, refl, refl, refl, refl, refl);
       misused-version = refl;

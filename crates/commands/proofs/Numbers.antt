@@ -1,23 +1,22 @@
 -- Laws of the numbers among the arguments.
 use mathlib.Core.Path.{_≡_, refl, sym, ap, _∙_}
-use mathlib.Core.List.{List, [], _∷_, _++_}
+use mathlib.Core.List.{List, [], _∷_}
 use mathlib.Core.Option.{none, some}
-use mathlib.Core.Bool.{Bool, true, false, not, cond}
-use Prim.Native.Nat.{ℕ, zero, suc, _+_, _-_, _≤_, _<_}
+use mathlib.Core.Bool.{Bool, true, false}
+use Prim.Native.Nat.{ℕ, suc}
 use native.Mathlib.Omega.{arith}
 use lib.Dec.{eqb}
 use lib.IntN.{ℤ, pos, negsuc, natAbs}
 use lib.Signed.{ltZ}
-use lib.ListN.{length, take, set, length-set}
-use borrow.Author.Tests.{eq-eqb, ne-eqb, le-leb, lt-leb, ltb-true, not-true, not-false}
+use lib.ListN.{length}
+use borrow.Author.Tests.{eq-eqb, ne-eqb, ltb-true}
 use Rattle.lists.specs.Lists.{isSome}
-use Rattle.lists.proofs.Parts.{fill-step, fill-done}
 use Rattle.lists.proofs.Tests.{clash}
 use Rattle.decimal.specs.declared.Number.{Number}
 use Rattle.decimal.specs.declared.Number.the-variants.{Value, Bad}
 use Rattle.decimal.specs.Reading.{Reading, number}
 use Rattle.decimal.specs.Places.{placed, numberFrom}
-use Rattle.commands.specs.Arguments.{boxOf, argument, whole, isNumber, valueIn, numberOf, naturalOf, fromOne, layerIn, placesFrom, numbersFrom, looked}
+use Rattle.commands.specs.Arguments.{boxOf, argument, whole, isNumber, valueIn, numberOf, naturalOf, fromOne, layerIn}
 
 -- ---- numbers
 abbrev is-value : Number → Bool
@@ -97,99 +96,3 @@ pub box-is : (args : List ℕ) (left bottom right top : ℤ) → left ≡ number
     → right ≡ numberOf (argument 3 args) → top ≡ numberOf (argument 4 args) → record { left = left; bottom = bottom; right = right; top = top } ≡ boxOf args
 unfolding boxOf
 box-is args left bottom right top e f g h = rw (e, f, g, h)
-
--- ---- the places that arguments are
-module _ (args : List ℕ) (n : ℕ) where
-  -- the first i stand in their cells
-  pub record Placed (out : List ℕ) (i : ℕ) : Type 0 where
-    pub long : length out ≡ n
-    pub few : i ≤ n
-    pub rest : take i out ++ placesFrom args (i + 1) (n - i) ≡ placesFrom args 1 n
-
-  pub placed-none : (out : List ℕ) → length out ≡ n → Placed out 0
-  placed-none out h =
-      let k : n - 0 ≡ n = omega arith in
-      record { long = h; few = omega arith; rest = ap (placesFrom args 1) k }
-
-  module _ (out : List ℕ) (i : ℕ) (p : Placed out i) where
-    pub placed-more : i < length out → (x : ℕ) → x ≡ naturalOf (numberOf (argument (i + 1) args)) → Placed (set out i x) (i + 1)
-    unfolding placesFrom
-    placed-more l x e =
-        let h : i < n = omega (arith, p .long) in
-        let k : n - i ≡ suc (n - (i + 1)) = omega arith in
-        let j : suc (i + 1) ≡ i + 1 + 1 = omega arith in
-        let rest = placesFrom args (i + 1 + 1) (n - (i + 1)) in
-        let f : placesFrom args (i + 1) (n - i) ≡ x ∷ rest
-        = ap (placesFrom args (i + 1)) k ∙ (ap (λ (m : ℕ). naturalOf (numberOf (argument (i + 1) args)) ∷ placesFrom args m (n - (i + 1))) j
-        ∙ ap (λ (y : ℕ). y ∷ rest) (sym e)) in
-        record {
-          long = length-set out i x ∙ p .long;
-          few = omega arith;
-          rest = fill-step out (placesFrom args 1 n) rest i x (omega (arith, p .long)) (ap (λ (l : List ℕ). take i out ++ l) (sym f) ∙ p .rest);
-        }
-
-    pub placed-all : length out ≤ i → out ≡ placesFrom args 1 n
-    unfolding placesFrom
-    placed-all h =
-        let k : n - i ≡ 0 = omega (arith, p .long) in
-        fill-done out (placesFrom args 1 n) (placesFrom args (i + 1) (n - i)) i (omega (arith, p .long)) (ap (placesFrom args (i + 1)) k) (p .rest)
-
--- the first n of more places
-pub places-first : (args : List ℕ) (i n m : ℕ) → n ≤ m → take n (placesFrom args i m) ≡ placesFrom args i n
-unfolding placesFrom
-places-first args i zero m h = refl
-places-first args i (suc n) zero h = absurd (omega (arith, h))
-places-first args i (suc n) (suc m) h = ap (λ (l : List ℕ). naturalOf (numberOf (argument i args)) ∷ l) (places-first args (suc i) n m (omega (arith, h)))
-
-places-long : (args : List ℕ) (i n : ℕ) → length (placesFrom args i n) ≡ n
-unfolding placesFrom
-places-long args i zero = refl
-places-long args i (suc n) = ap suc (places-long args (suc i) n)
-
-pub places-count : (args places : List ℕ) (n : ℕ) → n ≤ 7 → places ≡ placesFrom args 1 7 → n ≡ length (take n places)
-places-count args places n h e = sym (ap length (ap (take n) e ∙ places-first args 1 n 7 h) ∙ places-long args 1 n)
-
--- ---- how many numbers stand first
-module _ (args : List ℕ) (most : ℕ) where
-  -- the first n are numbers
-  pub record Numbered (n : ℕ) : Type 0 where
-    pub few : n ≤ most
-    pub rest : n + numbersFrom args (n + 1) (most - n) ≡ numbersFrom args 1 most
-
-  pub numbered-none : Numbered 0
-  numbered-none = let k : most - 0 ≡ most = omega arith in record { few = omega arith; rest = ap (λ (f : ℕ). 0 + numbersFrom args 1 f) k ∙ omega arith }
-
-  module _ (n : ℕ) (c : Numbered n) where
-    next-number : n < most → (v : Bool) → v ≡ isNumber (argument (n + 1) args)
-        → numbersFrom args (n + 1) (most - n) ≡ cond v (suc (numbersFrom args (n + 1 + 1) (most - (n + 1)))) 0
-    unfolding numbersFrom
-    next-number h v e =
-        let k : most - n ≡ suc (most - (n + 1)) = omega arith in
-        let j : suc (n + 1) ≡ n + 1 + 1 = omega arith in
-        ap (numbersFrom args (n + 1)) k ∙ (ap (λ (t : Bool). cond t (suc (numbersFrom args (suc (n + 1)) (most - (n + 1)))) 0) (sym e)
-        ∙ ap (λ (i : ℕ). cond v (suc (numbersFrom args i (most - (n + 1)))) 0) j)
-
-    pub numbered-more : n < most → (v : Bool) → v ≡ isNumber (argument (n + 1) args) → not v ≡ false → Numbered (n + 1)
-    numbered-more h v e f = record { few = omega arith; rest = omega (arith, c .rest, next-number h true (sym (not-false v f) ∙ e)) }
-
-    pub numbered-stop : n < most → (v : Bool) → v ≡ isNumber (argument (n + 1) args) → not v ≡ true → n ≡ numbersFrom args 1 most
-    numbered-stop h v e f = omega (arith, c .rest, next-number h false (sym (not-true v f) ∙ e))
-
-    pub numbered-all : most ≤ n → n ≡ numbersFrom args 1 most
-    unfolding numbersFrom
-    numbered-all h =
-        let k : most - n ≡ 0 = omega arith in
-        let e : numbersFrom args (n + 1) (most - n) ≡ 0 = ap (numbersFrom args (n + 1)) k in
-        omega (arith, c .rest, e)
-
-pub looked-none : (count : ℕ) → count ≡ 0 → looked count ≡ 0
-unfolding looked
-looked-none count h = rw h refl
-
-pub looked-few : (count : ℕ) → count ≤ 8 → count - 1 ≡ looked count
-unfolding looked
-looked-few count h = rw (le-leb count 8 h) refl
-
-pub looked-many : (count : ℕ) → 8 < count → 7 ≡ looked count
-unfolding looked
-looked-many count h = rw (lt-leb count 8 h) refl

@@ -1,12 +1,12 @@
 -- Laws of what the commands say.
 use mathlib.Core.Path.{_≡_, refl, sym, ap, _∙_}
 use mathlib.Core.List.{List}
-use mathlib.Core.Bool.{Bool, true, false, not, _&&_}
-use Prim.Native.Nat.{ℕ, zero, suc, _+_, _≤_, _<_}
+use mathlib.Core.Bool.{Bool, true, false, _&&_}
+use Prim.Native.Nat.{ℕ, zero, suc, _+_, _≤_}
 use native.Mathlib.Omega.{arith}
 use lib.Dec.{leb, ltb}
-use lib.ListN.{length, getD, take}
-use borrow.Author.Tests.{lt-ltb, not-true, not-false}
+use lib.ListN.{length, take}
+use borrow.Author.Tests.{lt-ltb}
 use Rattle.lists.specs.Stores.{Put}
 use Rattle.plan.specs.Causes.{onCause}
 use Rattle.printing.specs.Lines.{refusedLine}
@@ -22,16 +22,11 @@ use Rattle.outcomes.specs.Outcomes.{Told, errorLine, causeText, done, refused, 
 use Rattle.outcomes.specs.Rooms.{Room}
 use Rattle.outcomes.proofs.Texts.{part-few}
 use Rattle.outcomes.proofs.Outcomes.{told-done, told-misused, told-refused, told-same}
-use Rattle.geometry.specs.declared.Rect.{Rect}
-use Rattle.checking.specs.Check.{checkOf}
-use Rattle.asking.specs.Answers.{apartOf, nearestOf, pairsOf}
-use Rattle.listing.specs.Classes.{classesSaid}
-use Rattle.listing.specs.Hours.{hoursSaid}
-use Rattle.commands.specs.declared.Call.{Call}
+use Rattle.asking.specs.Answers.{apartOf}
 use Rattle.commands.specs.Commands.{mostCommands, usageLines, usage, helpTexts, helpText, versionLine}
-use Rattle.commands.specs.Arguments.{argument, boxOf, layerIn, placesFrom, commandNumber, callOf, fits}
-use Rattle.commands.specs.Outcomes.{reportOutcome, helpOutcome, answers, wanted, commandOf}
-use Rattle.commands.proofs.Numbers.{places-first}
+use Rattle.commands.specs.Arguments.{placesFrom}
+use Rattle.commands.specs.Outcomes.{reportOutcome, helpOutcome}
+use Rattle.commands.proofs.Places.{places-first}
 
 -- ---- what is wanted
 usage-few : length usageLines + 10 ≤ 65536
@@ -99,53 +94,3 @@ version-done out err outAfter line n room e p = told-done out err versionLine ou
 pub apart-first : (args text places out err outAfter errAfter : List ℕ) (n : ℕ) (r : Reply) → n ≤ 7 → places ≡ placesFrom args 1 7
     → Told (apartOf text (take n places)) out err outAfter errAfter r → Told (apartOf text (placesFrom args 1 n)) out err outAfter errAfter r
 apart-first args text places out err outAfter errAfter n r h e t = rw (← places-first args 1 n 7 h, ← e) t
-
--- ---- the program
-module _ (args text second out err outAfter errAfter : List ℕ) (c : Call) (r : Reply) (v : Bool) (e : c ≡ callOf args) (f : v ≡ fits c) where
-  pub command-wanted : not v ≡ true → Told (misused (usage (c .command))) out err outAfter errAfter r → Told (commandOf args text second) out err outAfter errAfter r
-  unfolding commandOf
-  command-wanted h t = rw (← e, ← f, not-true v h) t
-
-  pub command-answer : not v ≡ false → Told (getD (answers c args text second) (c .command) (wanted c)) out err outAfter errAfter r
-      → Told (commandOf args text second) out err outAfter errAfter r
-  unfolding commandOf
-  command-answer h t = rw (← e, ← f, not-false v h) t
-
-four-more : (n : ℕ) → (n ≡ 0 → ⊥) → (n ≡ 1 → ⊥) → (n ≡ 2 → ⊥) → (n ≡ 3 → ⊥) → 4 ≤ n
-four-more n n₀ n₁ n₂ n₃ = omega arith
-
-last-left : (n : ℕ) → 4 ≤ n → n < mostCommands → (n ≡ 4 → ⊥) → (n ≡ 5 → ⊥) → (n ≡ 6 → ⊥) → (n ≡ 7 → ⊥) → n ≡ 8
-last-left n l h n₄ n₅ n₆ n₇ = omega arith
-
-module _ (c : Call) (args text second out err outAfter errAfter : List ℕ) (r : Reply) where
-  -- the outcome of the call's command is told
-  abbrev Says : Type 0
-  Says = Told (getD (answers c args text second) (c .command) (wanted c)) out err outAfter errAfter r
-
-  pub says-report : c .command ≡ 0 → Told (reportOutcome text) out err outAfter errAfter r → Says
-  says-report e t = rw e t
-
-  pub says-check : c .command ≡ 1 → Told (checkOf text) out err outAfter errAfter r → Says
-  says-check e t = rw e t
-
-  pub says-pairs : c .command ≡ 2 → (layer : ℕ) → layer ≡ layerIn (c .numbers) args → Told (pairsOf text layer) out err outAfter errAfter r → Says
-  says-pairs e layer f t = rw (e, ← f) t
-
-  pub says-nearest : c .command ≡ 3 → (box : Rect) → box ≡ boxOf args → Told (nearestOf text box) out err outAfter errAfter r → Says
-  says-nearest e box f t = rw (e, ← f) t
-
-  pub says-apart : c .command ≡ 4 → Told (apartOf text (placesFrom args 1 (c .numbers))) out err outAfter errAfter r → Says
-  says-apart e t = rw e t
-
-  pub says-classes : c .command ≡ 5 → Told (classesSaid text) out err outAfter errAfter r → Says
-  says-classes e t = rw e t
-
-  pub says-hours : c .command ≡ 6 → Told (hoursSaid text second) out err outAfter errAfter r → Says
-  says-hours e t = rw e t
-
-  pub says-help : c .command ≡ 7 → (n : ℕ) → n ≡ commandNumber (argument 1 args) → Told (helpOutcome (c .names) n) out err outAfter errAfter r → Says
-  says-help e n f t = rw (e, ← f) t
-
-  pub says-version : c .command < mostCommands → (c .command ≡ 0 → ⊥) → (c .command ≡ 1 → ⊥) → (c .command ≡ 2 → ⊥) → (c .command ≡ 3 → ⊥)
-      → (c .command ≡ 4 → ⊥) → (c .command ≡ 5 → ⊥) → (c .command ≡ 6 → ⊥) → (c .command ≡ 7 → ⊥) → Told (done versionLine) out err outAfter errAfter r → Says
-  says-version h n₀ n₁ n₂ n₃ n₄ n₅ n₆ n₇ t = rw (last-left (c .command) (four-more (c .command) n₀ n₁ n₂ n₃) h n₄ n₅ n₆ n₇) t

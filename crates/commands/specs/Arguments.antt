@@ -1,14 +1,14 @@
 -- The arguments of the program, as bytes: each is followed by a byte 0. Behind the command's word stand its numbers, and behind these its names.
 use mathlib.Core.List.{List, [], _∷_}
 use mathlib.Core.Option.{Option, none, some}
-use mathlib.Core.Bool.{Bool, cond, _&&_}
+use mathlib.Core.Bool.{Bool, cond, _&&_, _||_}
 use Prim.Native.Nat.{ℕ, zero, suc, _+_, _-_}
 use lib.Dec.{eqb, leb, ltb}
 use lib.IntN.{ℤ, pos, negsuc}
 use Rattle.lists.specs.Lists.{same, isSome}
 use Rattle.geometry.specs.declared.Rect.{Rect}
 use Rattle.decimal.specs.Reading.{Reading, number}
-use Rattle.outcomes.specs.Texts.{partAt}
+use Rattle.outcomes.specs.Texts.{ascii, partAt}
 use Rattle.commands.specs.declared.Call.{Call}
 use Rattle.commands.specs.Commands.{mostCommands, commandWords, limit}
 
@@ -70,10 +70,22 @@ unfoldable pub placesFrom : (args : List ℕ) (i n : ℕ) → List ℕ
 placesFrom args i zero = []
 placesFrom args i (suc n) = naturalOf (numberOf (argument i args)) ∷ placesFrom args (suc i) n
 
--- how many of the f arguments from i on are numbers, up to the first that is none
-unfoldable pub numbersFrom : (args : List ℕ) (i f : ℕ) → ℕ
-numbersFrom args i zero = 0
-numbersFrom args i (suc f) = cond (isNumber (argument i args)) (suc (numbersFrom args (suc i) f)) 0
+-- a word that is taken for a number: one, or `-` where that may stand for none
+unfoldable pub isTaken : (dash : ℕ) → List ℕ → Bool
+isTaken dash word = isNumber word || (eqb dash 1 && same word (ascii "-"))
+
+-- how many of the f arguments from i on are taken for numbers, up to the first that is not
+unfoldable pub numbersFrom : (dash : ℕ) (args : List ℕ) (i f : ℕ) → ℕ
+numbersFrom dash args i zero = 0
+numbersFrom dash args i (suc f) = cond (isTaken dash (argument i args)) (suc (numbersFrom dash args (suc i) f)) 0
+
+-- the weight of an argument that is a number; one that is none, as `-`, has no weight
+abbrev pub weightAt : (args : List ℕ) (i weight : ℕ) → ℕ
+weightAt args i weight = cond (isNumber (argument i args)) weight 0
+
+-- which of the four stops behind the command's word are given, as `cover` takes it: a sum of weights, 1 left, 2 bottom, 4 right, 8 top
+abbrev pub givenIn : (args : List ℕ) → ℕ
+givenIn args = weightAt args 1 1 + weightAt args 2 2 + weightAt args 3 4 + weightAt args 4 8
 
 -- the first of the f commands from i on whose word this is, or the number behind the last
 unfoldable pub commandFrom : (word : List ℕ) (i f : ℕ) → ℕ
@@ -87,23 +99,24 @@ commandNumber word = commandFrom word 0 mostCommands
 unfoldable pub looked : (count : ℕ) → ℕ
 looked count = cond (leb count 8) (count - 1) 7
 
--- the most numbers that a command takes; none where the word is no command's
-abbrev pub mostNumbers : (command : ℕ) → ℕ
-mostNumbers command = cond (ltb command mostCommands) (limit command 1) 0
+-- a limit of a command; 0 where the word is no command's
+unfoldable pub limitOr : (command column : ℕ) → ℕ
+limitOr command column = cond (ltb command mostCommands) (limit command column) 0
 
 -- the lesser of two
 abbrev pub fewer : (n m : ℕ) → ℕ
 fewer n m = cond (leb n m) n m
 
--- how many numbers there are: what stands behind as many as the command takes is a name, though it be spelled as a number
-abbrev pub numbersIn : List ℕ → ℕ
-numbersIn args = numbersFrom args 1 (fewer (mostNumbers (commandNumber (argument 0 args))) (looked (countOf args)))
+-- how many numbers there are behind the word of a command: what stands behind as many as the command takes is a name, though it be spelled as a number
+unfoldable pub numbersIn : (command : ℕ) → List ℕ → ℕ
+numbersIn command args = numbersFrom (limitOr command 5) args 1 (fewer (limitOr command 1) (looked (countOf args)))
 
 -- what the arguments ask for
 unfoldable pub callOf : List ℕ → Call
 callOf args =
-    let n = numbersIn args in
-    record { command = commandNumber (argument 0 args); numbers = n; names = countOf args - 1 - n }
+    let command = commandNumber (argument 0 args) in
+    let n = numbersIn command args in
+    record { command = command; numbers = n; names = countOf args - 1 - n }
 
 -- a number is from the low one to the high one
 abbrev pub within : (low n high : ℕ) → Bool

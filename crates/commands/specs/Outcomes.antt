@@ -11,9 +11,11 @@ use Rattle.checking.specs.Check.{checkOf}
 use Rattle.asking.specs.Answers.{apartOf, nearestOf, pairsOf}
 use Rattle.listing.specs.Classes.{classesSaid}
 use Rattle.listing.specs.Hours.{hoursSaid}
+use Rattle.listing.specs.Cover.{coverSaid}
+use Rattle.picture.specs.Pictures.{pictureSaid}
 use Rattle.commands.specs.declared.Call.{Call}
 use Rattle.commands.specs.Commands.{mostCommands, usage, helpText, versionLine}
-use Rattle.commands.specs.Arguments.{argument, boxOf, layerIn, placesFrom, commandNumber, callOf, fits}
+use Rattle.commands.specs.Arguments.{argument, boxOf, layerIn, placesFrom, givenIn, commandNumber, callOf, fits}
 
 -- `report`: what the report program prints for the text
 unfoldable pub reportOutcome : (text : List ℕ) → Outcome
@@ -33,6 +35,8 @@ answers call arguments text second =
     ∷ apartOf text (placesFrom arguments 1 (call .numbers))
     ∷ classesSaid text
     ∷ hoursSaid text second
+    ∷ coverSaid (boxOf arguments) (givenIn arguments) text
+    ∷ pictureSaid text
     ∷ helpOutcome (call .names) (commandNumber (argument 1 arguments))
     ∷ done versionLine
     ∷ []

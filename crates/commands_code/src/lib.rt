@@ -8,6 +8,7 @@ use answers::put_version;
 use answers::put_wanted;
 use arguments_code::box_of;
 use arguments_code::call_of;
+use arguments_code::given_stops;
 use arguments_code::is_fit;
 use arguments_code::layer_of;
 use arguments_code::named_command;
@@ -16,8 +17,10 @@ use asking_code::pairs;
 use checking_code::check;
 use commands::Call;
 use listing_code::classes;
+use listing_code::cover;
 use listing_code::hours;
 use outcomes::Reply;
+use picture_code::picture;
 ghost use Prim.Native.Nat.{_≤_, _<_};
 ghost use lib.ListN.{getD};
 ghost use Rattle.outcomes.specs.Outcomes.{Told};
@@ -90,9 +93,30 @@ fn answer(
         2 => pairs(text, layer_of(arguments, n), table, work, out, err),
         3 => nearest(text, box_of(arguments), out, err),
         4 => put_apart(arguments, n, text, out, err),
+        _ => answer_more(call, arguments, text, second, out, err),
+    }
+}
+
+// The same, of the commands behind these.
+fn answer_more(
+    call: Call,
+    arguments: &[u8],
+    text: &[u8],
+    second: &[u8],
+    out: &mut [u8],
+    err: &mut [u8],
+) -> Reply
+    requires { ⌜ Room (now out) (now err) × (5 ≤ call .command) × (call .command < mostCommands) ⌝ }
+    ensures { λ r. ⌜ Told (getD (answers call (now (arguments .entry)) (now (text .entry)) (now (second .entry))) (call .command) (wanted call))
+        (now (out .entry)) (now (err .entry)) (now (out .exit)) (now (err .exit)) r ⌝ }
+{
+    let c = call.command;
+    match c {
         5 => classes(text, out, err),
         6 => hours(text, second, out, err),
-        7 => put_help(call.names, named_command(arguments, 1), out, err),
+        7 => cover(text, box_of(arguments), given_stops(arguments), out, err),
+        8 => picture(text, out, err),
+        9 => put_help(call.names, named_command(arguments, 1), out, err),
         _ => put_version(out, err),
     }
 }

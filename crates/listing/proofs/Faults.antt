@@ -1,13 +1,10 @@
 -- Laws of a windows text: what is said where it has a fault, and where it has none.
 use mathlib.Core.Path.{_≡_, refl, ap}
 use mathlib.Core.List.{List, [], _∷_, _++_, append-assoc}
-use mathlib.Core.Bool.{Bool, true, false, cond}
-use Prim.Native.Nat.{ℕ, zero, suc, _+_, _*_, _≤_}
+use Prim.Native.Nat.{ℕ, zero, suc, _*_, _≤_}
 use native.Mathlib.Omega.{arith}
-use lib.Dec.{eqb}
 use lib.IntN.{ℤ}
 use lib.ListN.{length, take, length-append}
-use borrow.Author.Tests.{ne-eqb}
 use Rattle.lists.specs.Lists.{sum}
 use Rattle.lists.specs.Stores.{Put}
 use Rattle.decimal.specs.Numerals.{decimal}
@@ -25,9 +22,11 @@ use Rattle.outcomes.specs.Texts.{ascii}
 use Rattle.outcomes.specs.Outcomes.{Told, refusedWith}
 use Rattle.outcomes.specs.Rooms.{Room, roomForWords}
 use Rattle.listing.specs.declared.Fault.{Fault}
-use Rattle.listing.specs.Windows.{hoursFrom, reasonWords, faultLine}
+use Rattle.listing.specs.Reasons.{windowWords}
+use Rattle.listing.specs.Windows.{hoursFrom, faultLine}
 use Rattle.listing.specs.Hours.{timedSaid, planHours}
 use Rattle.listing.specs.Parts.{Ready, ReadInto}
+use Rattle.listing.proofs.Reasons.{words-few}
 use Rattle.listing.proofs.Plans.{part-count, part-sound}
 use Rattle.listing.proofs.Windowed.{hours-read, hours-part}
 
@@ -74,59 +73,19 @@ module _ (windows : List ℕ) (s : Shape) (lent : List ℤ) (order : List ℕ) (
     read-two = hours-two windows s lent n e first hours f r z (ready-hours s lent order h n e first l)
 
 -- ---- the line
-parts : (f : Fault) → faultLine f ≡ ascii "overlay: windows, line " ++ (decimal (f .line) ++ (reasonWords (f .reason) ++ 10 ∷ []))
+parts : (f : Fault) → faultLine f ≡ ascii "overlay: windows, line " ++ (decimal (f .line) ++ (ascii ": " ++ (windowWords (f .reason) ++ 10 ∷ [])))
 unfolding faultLine
-parts f =
-    ap (λ (l : List ℕ). ascii "overlay: windows, line " ++ l) (append-assoc (decimal (f .line)) (reasonWords (f .reason)) (10 ∷ []))
-
--- the words of each reason, with the byte that ends the line
-module _ (reason : ℕ) where
-  abbrev said : List ℕ
-  said = reasonWords reason ++ 10 ∷ []
-
-  pub reason-one : reason ≡ 1 → said ≡ ascii ": not WINDOW and two numbers, each behind a tab\n"
-  reason-one e = rw e
-
-  pub room-one : (buf : List ℕ) (at : ℕ) → reason ≡ 1 → FitsAt buf at said → at + length (ascii ": not WINDOW and two numbers, each behind a tab\n") ≤ length buf
-  room-one buf at e r = omega (arith, r .fits, ap length (reason-one e))
-
-  pub reason-two : reason ≡ 2 → said ≡ ascii ": the window does not end behind its start within the week of 10080 minutes\n"
-  reason-two e = rw e
-
-  pub room-two : (buf : List ℕ) (at : ℕ) → reason ≡ 2 → FitsAt buf at said → at + length (ascii ": the window does not end behind its start within the week of 10080 minutes\n") ≤ length buf
-  room-two buf at e r = omega (arith, r .fits, ap length (reason-two e))
-
-  pub reason-three : reason ≡ 3 → said ≡ ascii ": more windows than rectangles\n"
-  reason-three e = rw e
-
-  pub room-three : (buf : List ℕ) (at : ℕ) → reason ≡ 3 → FitsAt buf at said → at + length (ascii ": more windows than rectangles\n") ≤ length buf
-  room-three buf at e r = omega (arith, r .fits, ap length (reason-three e))
-
-  pub reason-other : (reason ≡ 1 → ⊥) → (reason ≡ 2 → ⊥) → (reason ≡ 3 → ⊥) → said ≡ ascii ": fewer windows than rectangles\n"
-  reason-other e f g = rw (ne-eqb reason 1 e, ne-eqb reason 2 f, ne-eqb reason 3 g)
-
-  pub room-other : (buf : List ℕ) (at : ℕ) → (reason ≡ 1 → ⊥) → (reason ≡ 2 → ⊥) → (reason ≡ 3 → ⊥) → FitsAt buf at said → at + length (ascii ": fewer windows than rectangles\n") ≤ length buf
-  room-other buf at e f g r = omega (arith, r .fits, ap length (reason-other e f g))
-
-reason-few : (reason : ℕ) → length (reasonWords reason) ≤ 80
-reason-few reason = go (eqb reason 1) (eqb reason 2) (eqb reason 3)
-  where
-    go : (a b c : Bool) → length (cond a (ascii ": not WINDOW and two numbers, each behind a tab") (cond b (ascii ": the window does not end behind its start within the week of 10080 minutes")
-        (cond c (ascii ": more windows than rectangles") (ascii ": fewer windows than rectangles")))) ≤ 80
-    go true b c = omega arith
-    go false true c = omega arith
-    go false false true = omega arith
-    go false false false = omega arith
+parts f = simp append-assoc
 
 module _ (f : Fault) (err : List ℕ) where
   abbrev rest : List ℕ
-  rest = decimal (f .line) ++ (reasonWords (f .reason) ++ 10 ∷ [])
+  rest = decimal (f .line) ++ (ascii ": " ++ (windowWords (f .reason) ++ 10 ∷ []))
 
-  rest-few : length rest ≤ 101
+  rest-few : length rest ≤ 514
   rest-few =
-      omega (arith, length-append (decimal (f .line)) (reasonWords (f .reason) ++ 10 ∷ []), length-append (reasonWords (f .reason)) (10 ∷ []), digits-few (f .line), reason-few (f .reason))
+      omega (arith, length-append (decimal (f .line)) (ascii ": " ++ (windowWords (f .reason) ++ 10 ∷ [])), length-append (windowWords (f .reason)) (10 ∷ []), digits-few (f .line), words-few (f .reason))
 
-  line-few : length (faultLine f) ≤ 124
+  line-few : length (faultLine f) ≤ 537
   line-few = omega (arith, ap length (parts f), length-append (ascii "overlay: windows, line ") rest, rest-few)
 
   module _ (mid : List ℕ) (m : ℕ) (p : Put err 0 (ascii "overlay: windows, line ") mid m) where

@@ -10,8 +10,12 @@ pub mod Classes
 pub mod Floats
 pub mod Cover
 pub mod Stops
+pub mod Reasons
 pub mod WindowLines
 pub mod Windowed
 pub mod Hours
 pub mod Faults
 pub mod Theorems
+pub mod Whole
+pub mod LineSpelled
+pub mod Spelled

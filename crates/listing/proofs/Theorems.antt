@@ -26,6 +26,9 @@ use Rattle.timed.specs.Timed.{timedTableOf}
 use Rattle.printing.specs.Lines.{lineOf}
 use Rattle.listing.specs.Lines.{classLine}
 use Rattle.listing.specs.Cover.{floatAt}
+use Rattle.outcomes.specs.Texts.{upTo, behindFirst, partAt}
+use Rattle.checking.specs.Reasons.{digit, zeroLeads, runOn}
+use Rattle.listing.specs.Reasons.{windowReasons, windowWords, numbersReason, fieldsReason, wordReason, lineReason}
 use Rattle.listing.specs.Windows.{windowDue, faultLine}
 use Rattle.listing.specs.Theorems.{Listings}
 use Rattle.listing.proofs.Lines.{front, row-front, with-front}
@@ -42,18 +45,39 @@ minutes s cells hours sound e =
     all-map (λ row p. rw (e, p .0, p .1)) (all-keep (sharesMinute (sizesOf s) hours) all)
 
 pub listings : Listings
-unfolding classLine lineOf decimal size floatAt windowDue number isWindow faultLine
+unfolding classLine lineOf decimal size floatAt windowDue number isWindow faultLine windowWords windowReasons numbersReason fieldsReason wordReason lineReason partAt upTo behindFirst digit zeroLeads runOn
 listings = record {
   rows = λ more ls row. (front ls row, row-front ls row, with-front more ls row (row) 0);
   classes = classes;
   minutes = minutes;
   counts = refl;
   floats = refl;
+  all-bytes = refl;
   good = (refl, refl);
   formed = refl;
   stated = refl;
   ended = refl;
   more = refl;
+  more-bad = refl;
+  more-blank = refl;
+  more-space = refl;
+  more-word = refl;
+  more-open = refl;
+  more-numbers = refl;
   fewer = refl;
+  negative = refl;
   told = refl;
+  spaced = refl;
+  leading-space = refl;
+  space-in = refl;
+  return = refl;
+  blank = refl;
+  word = refl;
+  plus = refl;
+  point = refl;
+  zero = refl;
+  nine = refl;
+  no-end = refl;
+  numbers = refl;
+  mark = refl;
 }

@@ -1,19 +1,42 @@
 -- Laws of reading a windows text, window by window.
 use mathlib.Core.Path.{_≡_, refl, sym, ap, _∙_}
-use mathlib.Core.List.{List}
+use mathlib.Core.List.{List, [], _∷_}
 use Prim.Native.Nat.{ℕ, zero, suc, _+_, _-_, _*_, _≤_, _<_}
 use native.Mathlib.Omega.{arith}
-use lib.ListN.{length, set, take, drop, drop-of-length-le}
+use lib.ListN.{length, set, take, drop, drop-of-length-le, length-drop}
 use lib.Seq.{take-at}
+use borrow.Author.Tests.{ne-eqb}
 use Rattle.lists.specs.Stores.{Put}
 use Rattle.lists.proofs.Stores.{Left, left-all, left-byte, left-none, put-start}
-use Rattle.decimal.proofs.Places.{at-byte}
 use Rattle.line.specs.Parsing.{next}
 use Rattle.listing.specs.declared.Taken.{Taken}
 use Rattle.listing.specs.declared.Taken.the-variants.{Window, Wrong}
 use Rattle.listing.specs.declared.Fault.{Fault}
-use Rattle.listing.specs.Windows.{Due, window, wrong, windowDue, noFault, faultDue, faultFrom, hoursDue, hoursFrom}
+use Rattle.listing.specs.Windows.{Due, window, wrong, windowDue, noFault, faultDue, beyond, faultFrom, hoursDue, hoursFrom}
 use Rattle.listing.specs.Parts.{Takes, ReadInto}
+
+-- ---- a line behind the last window
+fault-beyond : (line : ℕ) (l : List ℕ) → 0 < length l → faultFrom 0 line l ≡ record { reason = beyond (windowDue l); line = line }
+fault-beyond line [] h = absurd (omega arith)
+fault-beyond line (b ∷ l) h = refl
+
+module _ (t l : List ℕ) (r : Taken) (k : Takes t (windowDue l) r) where
+  -- a window
+  pub beyond-window : (from to next : ℕ) → r ≡ Window from to next → 3 ≡ beyond (windowDue l)
+  beyond-window from to next e = let x : Takes t (windowDue l) (Window from to next) = rw e at k in rw (x .0)
+
+  -- none, by what it is
+  module _ (reason : ℕ) (e : r ≡ Wrong reason) where
+    wrong-due : Takes t (windowDue l) (Wrong reason)
+    wrong-due = rw e at k
+
+    pub beyond-stated : reason ≡ 2 → 3 ≡ beyond (windowDue l)
+    beyond-stated h = let n : wrong-due .0 ≡ 1 = omega (arith, h, wrong-due .1) in rw (wrong-due .2, n)
+
+    pub beyond-formed : (reason ≡ 2 → ⊥) → reason ≡ beyond (windowDue l)
+    beyond-formed h =
+        let n : wrong-due .0 ≡ 1 → ⊥ = λ g. h (omega (arith, g, wrong-due .1)) in
+        rw (wrong-due .2, ne-eqb (wrong-due .0) 1 n) (wrong-due .1)
 
 -- ---- line after line: i windows are read, and the text goes on at `at`
 module _ (t : List ℕ) (n : ℕ) (first : List ℕ) where
@@ -69,10 +92,12 @@ module _ (t : List ℕ) (n : ℕ) (first : List ℕ) where
       all-stored = left-none _ _ _ _ _ (rw none-more at (w .left))
 
       -- more lines
-      pub line-over : at < length t → ReadInto t n first (record { reason = 3; line = i + 1 }) hours
-      line-over l =
+      pub line-over : (reason : ℕ) → at < length t → reason ≡ beyond (windowDue (drop at t)) → ReadInto t n first (record { reason = reason; line = i + 1 }) hours
+      line-over reason l e =
           let k : i + 1 ≡ suc i = omega arith in
-          record { fault = rw k (rw (none-more, at-byte t at l) at (w .fault)); reached = 2 * i; stored = all-stored }
+          let f : faultFrom 0 (suc i) (drop at t) ≡ faultFrom n 1 t = rw none-more at (w .fault) in
+          let g = fault-beyond (suc i) (drop at t) (omega (arith, length-drop at t)) in
+          record { fault = rw (e, k) (sym g ∙ f); reached = 2 * i; stored = all-stored }
 
       pub all-windowed : length t ≤ at → ReadInto t n first noFault hours
       all-windowed l = record { fault = rw (none-more, drop-of-length-le t l) at (w .fault); reached = 2 * i; stored = all-stored }

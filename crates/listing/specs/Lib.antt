@@ -2,7 +2,10 @@ pub mod Lines
 pub mod Plans
 pub mod Classes
 pub mod Cover
+pub mod Reasons
 pub mod Windows
 pub mod Hours
 pub mod Theorems
+pub mod Whole
 pub mod Parts
+pub mod Spelled

@@ -4,6 +4,7 @@ use mathlib.Core.List.{List}
 use mathlib.Core.Option.{Option}
 use mathlib.Core.Bool.{cond}
 use Prim.Native.Nat.{ℕ, suc, _≤_}
+use lib.Dec.{eqb}
 use lib.IntN.{ℤ}
 use lib.ListN.{length, take, drop}
 use Rattle.lists.specs.Lists.{sum}
@@ -24,6 +25,7 @@ use Rattle.listing.specs.declared.Fault.{Fault}
 use Rattle.listing.specs.declared.Taken.{Taken}
 use Rattle.listing.specs.declared.Taken.the-variants.{Window, Wrong}
 use Rattle.listing.specs.Plans.{textCause}
+use Rattle.listing.specs.Reasons.{lineReason}
 use Rattle.listing.specs.Windows.{Due, window, wrong, faultFrom, hoursFrom}
 
 -- the cells of a sound plan stand first in the lent ones, and its sweep order first in the lent order
@@ -64,6 +66,10 @@ Takes t due (Wrong reason) = (r : ℕ) × (reason ≡ suc r) × (due ≡ wrong r
 -- a window, if it is one
 abbrev pub judgedAt : (from to next : ℕ) → Taken
 judgedAt from to next = cond (isWindow (record { from = from; to = to })) (Window from to next) (Wrong 2)
+
+-- what is told of a line where `reason` was found wrong: of one that is not well formed, what is wrong with it
+abbrev pub toldReason : (reason : ℕ) (line : List ℕ) → ℕ
+toldReason reason line = cond (eqb reason 1) (suc (lineReason line)) reason
 
 -- a windows text of n rectangles is read: what is wrong, and its windows up to there
 pub record ReadInto (t : List ℕ) (n : ℕ) (first : List ℕ) (f : Fault) (hours : List ℕ) : Type 0 where

@@ -12,11 +12,9 @@ use Rattle.line.specs.Parsing.{next, behind, field}
 use Rattle.windows.specs.Windows.{isWindow}
 use Rattle.outcomes.specs.Texts.{ascii}
 use Rattle.outcomes.specs.Outcomes.{errorLine}
+use Rattle.checking.specs.Places.{firstLine}
 use Rattle.listing.specs.declared.Fault.{Fault}
-
--- the word WINDOW and its tab
-abbrev pub WINDOW : List ℕ
-WINDOW = 87 ∷ 73 ∷ 78 ∷ 68 ∷ 79 ∷ 87 ∷ 9 ∷ []
+use Rattle.listing.specs.Reasons.{WINDOW, windowWords, lineReason}
 
 -- the two fields of a WINDOW line
 abbrev pub windowFields : List ℕ → Reading (ℤ × ℤ)
@@ -30,8 +28,8 @@ abbrev pub minuteOf : ℤ → ℕ
 minuteOf (pos n) = n
 minuteOf (negsuc n) = 10081
 
--- what stands where a window is due: the window and the bytes behind it, or what is wrong: 0 the line is not well formed, 1 its window is not as stated, 3
--- there is no line
+-- what stands where a window is due: the window and the bytes behind it, or what is wrong, by the number of its words, less one: 0 the line has not the two
+-- numbers, 1 its window is not as stated, 3 there is no line, and above 3 what is wrong with a line that is not well formed (Reasons)
 pub data Due : Type 0 where
   window : (from to : ℕ) → (rest : List ℕ) → Due
   wrong : (reason : ℕ) → Due
@@ -45,10 +43,20 @@ abbrev pub fieldsDue : Reading (ℤ × ℤ) → Due
 fieldsDue none = wrong 0
 fieldsDue (some p) = judged (minuteOf (p .0 .0)) (minuteOf (p .0 .1)) (p .1)
 
+-- the window of a line
+abbrev pub lineDue : List ℕ → Due
+lineDue t = fieldsDue (next (behind WINDOW t) windowFields)
+
+-- a line that is not well formed, with what is wrong with it
+abbrev pub reasoned : (reason : ℕ) → Due → Due
+reasoned reason (window from to rest) = window from to rest
+reasoned reason (wrong zero) = wrong reason
+reasoned reason (wrong (suc r)) = wrong (suc r)
+
 -- the window at the start of a text
 unfoldable pub windowDue : List ℕ → Due
 windowDue [] = wrong 3
-windowDue (b ∷ t) = fieldsDue (next (behind WINDOW (b ∷ t)) windowFields)
+windowDue (b ∷ t) = reasoned (lineReason (firstLine (b ∷ t))) (lineDue (b ∷ t))
 
 -- ---- a whole text, from a line on, with `due` windows to come
 -- nothing is wrong
@@ -60,10 +68,15 @@ abbrev pub faultDue : Due → (line : ℕ) → (List ℕ → Fault) → Fault
 faultDue (window from to rest) line behind = behind rest
 faultDue (wrong reason) line behind = record { reason = suc reason; line = line }
 
--- what is wrong, and in which line first: 1 it is not well formed, 2 its window is not as stated, 3 there are more lines than rectangles, 4 fewer
+-- what is wrong with a line behind the last window: a well formed one is a window too many, 3, though it be not as stated
+abbrev pub beyond : Due → ℕ
+beyond (window from to rest) = 3
+beyond (wrong reason) = cond (eqb reason 1) 3 (suc reason)
+
+-- what is wrong, by the number of its words, and in which line first: 3 there are more windows than rectangles, 4 fewer
 abbrev pub faultFrom : (due line : ℕ) → List ℕ → Fault
 faultFrom zero line [] = noFault
-faultFrom zero line (b ∷ t) = record { reason = 3; line = line }
+faultFrom zero line (b ∷ t) = record { reason = beyond (windowDue (b ∷ t)); line = line }
 faultFrom (suc due) line t = faultDue (windowDue t) line (faultFrom due (suc line))
 
 -- a window's cells, and those of the bytes behind it
@@ -76,13 +89,6 @@ abbrev pub hoursFrom : (due : ℕ) → List ℕ → List ℕ
 hoursFrom zero t = []
 hoursFrom (suc due) t = hoursDue (windowDue t) (hoursFrom due)
 
--- ---- in words
-abbrev pub reasonWords : (reason : ℕ) → List ℕ
-reasonWords reason =
-    cond (eqb reason 1) (ascii ": not WINDOW and two numbers, each behind a tab")
-    (cond (eqb reason 2) (ascii ": the window does not end behind its start within the week of 10080 minutes")
-    (cond (eqb reason 3) (ascii ": more windows than rectangles") (ascii ": fewer windows than rectangles")))
-
 -- the line on standard error
 unfoldable pub faultLine : Fault → List ℕ
-faultLine f = errorLine (ascii "windows, line " ++ (decimal (f .line) ++ reasonWords (f .reason)))
+faultLine f = errorLine (ascii "windows, line " ++ (decimal (f .line) ++ (ascii ": " ++ windowWords (f .reason))))

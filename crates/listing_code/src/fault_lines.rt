@@ -1,9 +1,11 @@
 // What is wrong in a windows text, told.
+use checking_code::put_part;
 use listing::Fault;
 use outcomes::Reply;
 use printer::put_refused;
 use speller::put_decimal;
 use speller::put_word;
+ghost use mathlib.Core.Path.{_≡_};
 ghost use mathlib.Core.List.{[], _∷_, _++_};
 ghost use Prim.Native.Nat.{_≤_};
 ghost use lib.ListN.{length};
@@ -12,7 +14,9 @@ ghost use Rattle.decimal.specs.Numerals.{decimal};
 ghost use Rattle.printing.specs.Parts.{FitsAt};
 ghost use Rattle.outcomes.specs.Outcomes.{Told, refusedWith};
 ghost use Rattle.outcomes.specs.Rooms.{Room, roomForWords};
-ghost use Rattle.listing.specs.Windows.{reasonWords, faultLine};
+ghost use Rattle.outcomes.specs.Texts.{ascii};
+ghost use Rattle.listing.specs.Reasons.{windowReasons, windowWords};
+ghost use Rattle.listing.specs.Windows.{faultLine};
 
 // The refusal of a windows text.
 pub fn put_fault(out: &mut [u8], err: &mut [u8], fault: Fault) -> Reply
@@ -39,34 +43,48 @@ fn put_fault_line(err: &mut [u8], fault: Fault) -> usize
 
 // The number of the line and what is wrong in it; the place behind it.
 fn put_numbered(buf: &mut [u8], at: usize, line: u32, reason: u32) -> usize
-    requires { ⌜ FitsAt (now buf) at (decimal line ++ (reasonWords reason ++ 10 ∷ [])) ⌝ }
-    ensures { λ r. ⌜ Put (now (buf .entry)) at (decimal line ++ (reasonWords reason ++ 10 ∷ [])) (now (buf .exit)) r ⌝ }
+    requires { ⌜ FitsAt (now buf) at (decimal line ++ (ascii ": " ++ (windowWords reason ++ 10 ∷ []))) ⌝ }
+    ensures { λ r. ⌜ Put (now (buf .entry)) at (decimal line ++ (ascii ": " ++ (windowWords reason ++ 10 ∷ []))) (now (buf .exit)) r ⌝ }
 {
     let a = put_decimal(buf, at, line as u64);
+    put_colon(buf, a, reason)
+}
+
+// A colon and what is wrong; the place behind it.
+fn put_colon(buf: &mut [u8], at: usize, reason: u32) -> usize
+    requires { ⌜ FitsAt (now buf) at (ascii ": " ++ (windowWords reason ++ 10 ∷ [])) ⌝ }
+    ensures { λ r. ⌜ Put (now (buf .entry)) at (ascii ": " ++ (windowWords reason ++ 10 ∷ [])) (now (buf .exit)) r ⌝ }
+{
+    let a = put_word(buf, at, b": ");
     put_reason(buf, a, reason)
 }
 
 // What is wrong, and the byte that ends the line; the place behind it.
 fn put_reason(buf: &mut [u8], at: usize, reason: u32) -> usize
-    requires { ⌜ FitsAt (now buf) at (reasonWords reason ++ 10 ∷ []) ⌝ }
-    ensures { λ r. ⌜ Put (now (buf .entry)) at (reasonWords reason ++ 10 ∷ []) (now (buf .exit)) r ⌝ }
+    requires { ⌜ FitsAt (now buf) at (windowWords reason ++ 10 ∷ []) ⌝ }
+    ensures { λ r. ⌜ Put (now (buf .entry)) at (windowWords reason ++ 10 ∷ []) (now (buf .exit)) r ⌝ }
 {
-    if reason == 1 {
-        return put_word(
-            buf,
-            at,
-            b": not WINDOW and two numbers, each behind a tab\n",
-        );
-    }
-    if reason == 2 {
-        return put_word(
-            buf,
-            at,
-            b": the window does not end behind its start within the week of 10080 minutes\n",
-        );
-    }
-    if reason == 3 {
-        return put_word(buf, at, b": more windows than rectangles\n");
-    }
-    put_word(buf, at, b": fewer windows than rectangles\n")
+    let lines = reason_lines();
+    put_part(buf, at, &lines, reason)
+}
+
+// What may be wrong, a line each.
+fn reason_lines() -> [u8; 478]
+    ensures { λ r. ⌜ r ≡ windowReasons ⌝ }
+{
+    *b"\n\
+not the two numbers that WINDOW takes, each behind one tab\n\
+from is less than 0 or not less than to, or to is greater than 10080\n\
+more windows than rectangles\n\
+fewer windows than rectangles\n\
+a byte order mark\n\
+a carriage return\n\
+a blank line\n\
+a space: fields are parted by one tab and nothing else\n\
+a word that is not WINDOW, or no tab behind it\n\
+a number with a plus\n\
+a number with a point\n\
+a number with a leading zero\n\
+a number of nine digits or more\n\
+no line end at the end of the text\n"
 }

@@ -1,10 +1,11 @@
-// The commands `classes` and `hours` of the program `overlay`, and `cover`, which is not in its frame yet. What they say is defined in the crate `listing`.
+// The commands `classes`, `hours` and `cover` of the program `overlay`. What they say is defined in the crate `listing`.
 mod class_lines;
 mod corners;
 mod covers;
 mod fault_lines;
 mod hour_lines;
 mod hour_runs;
+mod line_reasons;
 mod plans;
 mod windows_text;
 
@@ -25,7 +26,7 @@ use planner::grow_plan;
 use plans::LONGEST_INPUT;
 use plans::RUN_TABLE_CELLS;
 use plans::RUN_WORK_CELLS;
-use plans::prepare;
+pub use plans::prepare;
 use tallier::crossing_report;
 use tally::CrossingReport;
 use totals::Total;

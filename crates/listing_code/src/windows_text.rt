@@ -1,4 +1,6 @@
 // A windows text, read line by line.
+use crate::line_reasons::line_reason;
+use checking_code::line_end;
 use decimal::Number;
 use lexer::read_field;
 use lexer::starts;
@@ -9,11 +11,17 @@ use windows::Window;
 ghost use mathlib.Core.Path.{_≡_};
 ghost use Prim.Native.Nat.{_*_, _≤_};
 ghost use lib.ListN.{length, drop};
-ghost use Rattle.listing.specs.Windows.{windowFields, minuteOf, fieldsDue, windowDue};
-ghost use Rattle.listing.specs.Parts.{Takes, judgedAt, ReadInto};
+ghost use Rattle.checking.specs.Places.{firstLine};
+ghost use Rattle.listing.specs.Windows.{windowFields, minuteOf, fieldsDue, lineDue, windowDue, beyond};
+ghost use Rattle.listing.specs.Parts.{Takes, judgedAt, toldReason, ReadInto};
 
 // The first minute behind those that a window may end with.
 const NO_MINUTE: u32 = 10081;
+
+// The number of the words for a window that is not as stated, and for more windows than rectangles.
+const NOT_AS_STATED: u32 = 2;
+
+const TOO_MANY: u32 = 3;
 
 // A number as a minute; one below 0 is none of the week.
 fn minute_of(z: i32) -> u32
@@ -32,7 +40,7 @@ fn judge(from: u32, to: u32, next: usize) -> Taken
     if is_window(Window { from, to }) {
         return Taken::Window(from, to, next);
     }
-    Taken::Wrong(2)
+    Taken::Wrong(NOT_AS_STATED)
 }
 
 // The window whose two fields stand at a place.
@@ -48,6 +56,29 @@ fn take_fields(t: &[u8], at: usize) -> Taken
     judge(minute_of(from), minute_of(to), b)
 }
 
+// The window of the line at a place.
+fn take_line(t: &[u8], at: usize) -> Taken
+    requires { ⌜ at ≤ length (now t) ⌝ }
+    ensures { λ r. ⌜ Takes (now (t .entry)) (lineDue (drop at (now (t .entry)))) r ⌝ }
+{
+    if starts(t, at, b"WINDOW\t") {
+        return take_fields(t, at + 7);
+    }
+    Taken::Wrong(1)
+}
+
+// What is told of the line at a place, where `reason` was found wrong.
+fn told_reason(t: &[u8], at: usize, reason: u32) -> u32
+    requires { ⌜ at ≤ length (now t) ⌝ }
+    ensures { λ r. ⌜ r ≡ toldReason reason (firstLine (drop at (now (t .entry)))) ⌝ }
+{
+    if reason != 1 {
+        return reason;
+    }
+    let end = line_end(t, at);
+    line_reason(&t[at..end])
+}
+
 // The window whose line stands at a place.
 fn take_window(t: &[u8], at: usize) -> Taken
     requires { ⌜ at ≤ length (now t) ⌝ }
@@ -56,10 +87,24 @@ fn take_window(t: &[u8], at: usize) -> Taken
     if t.len() <= at {
         return Taken::Wrong(4);
     }
-    if starts(t, at, b"WINDOW\t") {
-        return take_fields(t, at + 7);
+    match take_line(t, at) {
+        Taken::Window(from, to, next) => Taken::Window(from, to, next),
+        Taken::Wrong(reason) => Taken::Wrong(told_reason(t, at, reason)),
     }
-    Taken::Wrong(1)
+}
+
+// What is wrong with the line at a place behind the last window: a well formed one is a window too many.
+fn reason_beyond(t: &[u8], at: usize) -> u32
+    requires { ⌜ at ≤ length (now t) ⌝ }
+    ensures { λ r. ⌜ r ≡ beyond (windowDue (drop at (now (t .entry)))) ⌝ }
+{
+    let Taken::Wrong(reason) = take_window(t, at) else {
+        return TOO_MANY;
+    };
+    if reason == NOT_AS_STATED {
+        return TOO_MANY;
+    }
+    reason
 }
 
 // The windows of n rectangles into the first of the lent cells, and what is wrong in the text.
@@ -87,7 +132,7 @@ pub fn read_windows(t: &[u8], n: usize, hours: &mut [u32]) -> Fault
     }
     if at < t.len() {
         return Fault {
-            reason: 3,
+            reason: reason_beyond(t, at),
             line: i as u32 + 1,
         };
     }

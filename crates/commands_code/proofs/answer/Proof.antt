@@ -1,5 +1,5 @@
 -- `answer` lets the command of that number answer.
-use Rattle.commands.proofs.Outcomes.{says-report, says-check, says-pairs, says-nearest, says-apart, says-classes, says-hours, says-help, says-version}
+use Rattle.commands.proofs.Answers.{unlike-first, says-report, says-check, says-pairs, says-nearest, says-apart}
 use borrow.Author.Needs.{needs}
 use Rattle.commands_code.proofs.answer.Statement.{statement}
 use Rattle.commands_code.proofs.answer.Tie as tie
@@ -25,20 +25,8 @@ nearest-requires c κs = search needs
 put-apart-requires : tie.Need-put-apart-requires
 put-apart-requires c κs = search needs
 
-classes-requires : tie.Need-classes-requires
-classes-requires c κs = search needs
-
-hours-requires : tie.Need-hours-requires
-hours-requires c κs = search needs
-
-named-command-requires : tie.Need-named-command-requires
-named-command-requires c κs = search needs
-
-put-help-requires : tie.Need-put-help-requires
-put-help-requires c κs = search needs
-
-put-version-requires : tie.Need-put-version-requires
-put-version-requires c κs = search needs
+answer-more-requires : tie.Need-answer-more-requires
+answer-more-requires c κs = search (needs, unlike-first)
 
 same-length : tie.Need-same-length
 same-length c = search needs
@@ -98,34 +86,7 @@ same-length-14 : tie.Need-same-length-14
 same-length-14 c = search needs
 
 returns-6 : tie.Need-returns-6
-returns-6 c = search (needs, says-classes)
-
-same-length-15 : tie.Need-same-length-15
-same-length-15 c = search needs
-
-same-length-16 : tie.Need-same-length-16
-same-length-16 c = search needs
-
-returns-7 : tie.Need-returns-7
-returns-7 c = search (needs, says-hours)
-
-same-length-17 : tie.Need-same-length-17
-same-length-17 c = search needs
-
-same-length-18 : tie.Need-same-length-18
-same-length-18 c = search needs
-
-returns-8 : tie.Need-returns-8
-returns-8 c = search (needs, says-help)
-
-same-length-19 : tie.Need-same-length-19
-same-length-19 c = search needs
-
-same-length-20 : tie.Need-same-length-20
-same-length-20 c = search needs
-
-returns-9 : tie.Need-returns-9
-returns-9 c = search (needs, says-version)
+returns-6 c = search needs
 
 pub answer-spec : {M : Type 1} → statement M
 answer-spec =
@@ -138,11 +99,7 @@ answer-spec =
     box-of-requires
     nearest-requires
     put-apart-requires
-    classes-requires
-    hours-requires
-    named-command-requires
-    put-help-requires
-    put-version-requires
+    answer-more-requires
     same-length
     same-length-2
     returns
@@ -162,13 +119,4 @@ answer-spec =
     returns-5
     same-length-13
     same-length-14
-    returns-6
-    same-length-15
-    same-length-16
-    returns-7
-    same-length-17
-    same-length-18
-    returns-8
-    same-length-19
-    same-length-20
-    returns-9)
+    returns-6)

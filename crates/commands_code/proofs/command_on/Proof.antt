@@ -1,6 +1,6 @@
 -- `command_on` tells what is wanted, or lets the command answer.
 use Rattle.commands.proofs.Calls.{fit-command}
-use Rattle.commands.proofs.Outcomes.{command-wanted, command-answer}
+use Rattle.commands.proofs.Answers.{command-wanted, command-answer}
 use borrow.Author.Needs.{needs}
 use Rattle.commands_code.proofs.command_on.Statement.{statement}
 use Rattle.commands_code.proofs.command_on.Tie as tie

@@ -2,6 +2,7 @@
 
 mod extras;
 mod ffi;
+mod program;
 mod report;
 mod typed;
 
@@ -15,6 +16,7 @@ use overlay_tests::nearest::{compare_nearest, nearest};
 use overlay_tests::reference::REFERENCE;
 use overlay_tests::rounds::{self, compare_rounds};
 use overlay_tests::surveys::{self, compare_surveys};
+use program::compare_commands;
 use report::compare_program;
 use std::process::exit;
 use typed::compare_types;
@@ -25,7 +27,7 @@ fn stop(text: &str, cases: u64) -> ! {
     exit(1);
 }
 
-/// The seven calls of 01 and the pair call first, then what only the C interface has, then the types of the Rust crate, then those of 02, then the report program.
+/// The seven calls of 01 and the pair call first, then what only the C interface has, then the types of the Rust crate, then those of 02, then the report program and the program `overlay`.
 fn main() {
     let mut tally = compare(&Library, &REFERENCE).unwrap_or_else(|found| stop(&found.text, found.cases));
     let extras = compare_extras().unwrap_or_else(|text| stop(&text, tally.cases()));
@@ -47,6 +49,8 @@ fn main() {
     tally.add("laws", laws);
     let reports = compare_program().unwrap_or_else(|found| stop(&found.text, tally.cases()));
     tally.add("report program", reports);
+    let commands = compare_commands().unwrap_or_else(|found| stop(&found.text, tally.cases()));
+    tally.add("program overlay", commands);
     print!("{tally}");
     println!("{} cases, 0 differences", tally.cases());
 }

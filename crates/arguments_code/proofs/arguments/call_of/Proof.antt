@@ -10,20 +10,8 @@ count-arguments-requires c κs = search needs
 named-command-requires : tie.Need-named-command-requires
 named-command-requires c κs = search needs
 
-most-numbers-requires : tie.Need-most-numbers-requires
-most-numbers-requires c κs = search needs
-
-looked-at-requires : tie.Need-looked-at-requires
-looked-at-requires c κs = search needs
-
-fewer-of-requires : tie.Need-fewer-of-requires
-fewer-of-requires c κs = search needs
-
-count-numbers-requires : tie.Need-count-numbers-requires
-count-numbers-requires c κs = search needs
-
-cast-numbers : tie.Need-cast-numbers
-cast-numbers c = search needs
+numbers-of-requires : tie.Need-numbers-of-requires
+numbers-of-requires c κs = search needs
 
 rest-of-requires : tie.Need-rest-of-requires
 rest-of-requires c κs = search needs
@@ -37,10 +25,6 @@ call-of-spec =
     (tie.spec
     count-arguments-requires
     named-command-requires
-    most-numbers-requires
-    looked-at-requires
-    fewer-of-requires
-    count-numbers-requires
-    cast-numbers
+    numbers-of-requires
     rest-of-requires
     returns)

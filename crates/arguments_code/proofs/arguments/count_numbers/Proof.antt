@@ -1,25 +1,25 @@
--- `count_numbers` looks at argument after argument. The loop's invariant: the first n are numbers. The measure is how many are left.
+-- `count_numbers` looks at argument after argument. The loop's invariant: the first n are taken for numbers. The measure is how many are left.
 use native.Mathlib.Omega.{arith}
 use Prim.Native.Nat.{_-_}
-use Rattle.commands.proofs.Numbers.{Numbered, numbered-none, numbered-more, numbered-stop, numbered-all}
+use Rattle.commands.proofs.Counts.{Numbered, numbered-none, numbered-more, numbered-stop, numbered-all}
 use borrow.Author.Needs.{needs}
 use Rattle.arguments_code.proofs.arguments.count_numbers.Statement.{statement}
 use Rattle.arguments_code.proofs.arguments.count_numbers.Tie as tie
 
 abbrev Inv-loop : tie.InvT-loop
-Inv-loop arguments most n₀ n = Numbered arguments most n
+Inv-loop dash arguments most n₀ n = Numbered dash arguments most n
 
 abbrev μ-loop : tie.MeasureT-loop
-μ-loop arguments most n₀ n = most - n
+μ-loop dash arguments most n₀ n = most - n
 
 loop-holds : tie.Need-loop-holds Inv-loop μ-loop
 loop-holds c = search (needs, numbered-none)
 
-add-names-number : tie.Need-add-names-number Inv-loop μ-loop
-add-names-number c = omega arith
+add-takes-number : tie.Need-add-takes-number Inv-loop μ-loop
+add-takes-number c = omega arith
 
-names-number-requires : tie.Need-names-number-requires Inv-loop μ-loop
-names-number-requires c κs = search needs
+takes-number-requires : tie.Need-takes-number-requires Inv-loop μ-loop
+takes-number-requires c κs = search needs
 
 returns : tie.Need-returns Inv-loop μ-loop
 returns c = search (needs, numbered-stop)
@@ -43,8 +43,8 @@ count-numbers-spec =
     Inv-loop
     μ-loop
     loop-holds
-    add-names-number
-    names-number-requires
+    add-takes-number
+    takes-number-requires
     returns
     add-n
     loop-less

@@ -2,7 +2,7 @@
 use native.Mathlib.Omega.{arith}
 use Prim.Native.Nat.{_-_}
 use lib.ListN.{length}
-use Rattle.commands.proofs.Numbers.{Placed, placed-none, placed-more, placed-all}
+use Rattle.commands.proofs.Places.{Placed, placed-none, placed-more, placed-all}
 use borrow.Author.Needs.{needs}
 use Rattle.arguments_code.proofs.arguments.fill_places.Statement.{statement}
 use Rattle.arguments_code.proofs.arguments.fill_places.Tie as tie

@@ -1,5 +1,5 @@
 -- `looked_at` looks at all behind the first, or at seven.
-use Rattle.commands.proofs.Numbers.{looked-none, looked-few, looked-many}
+use Rattle.commands.proofs.Counts.{looked-none, looked-few, looked-many}
 use borrow.Author.Needs.{needs}
 use Rattle.arguments_code.proofs.arguments.looked_at.Statement.{statement}
 use Rattle.arguments_code.proofs.arguments.looked_at.Tie as tie

@@ -2,7 +2,7 @@
 use native.Mathlib.Omega.{arith}
 use Prim.Native.Nat.{_-_}
 use lib.ListN.{length}
-use Rattle.commands.proofs.Arguments.{unlike-length, Alike, alike-none, alike-more, alike-not, alike-all}
+use Rattle.commands.proofs.Same.{unlike-length, Alike, alike-none, alike-more, alike-not, alike-all}
 use borrow.Author.Needs.{needs}
 use Rattle.arguments_code.proofs.arguments.same_bytes.Statement.{statement}
 use Rattle.arguments_code.proofs.arguments.same_bytes.Tie as tie

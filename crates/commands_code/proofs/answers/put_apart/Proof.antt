@@ -1,5 +1,5 @@
 -- `put_apart` reads seven places, and asks for the first n of them.
-use Rattle.commands.proofs.Numbers.{places-count}
+use Rattle.commands.proofs.Places.{places-count}
 use Rattle.commands.proofs.Outcomes.{apart-first}
 use borrow.Author.Needs.{needs}
 use Rattle.commands_code.proofs.answers.put_apart.Statement.{statement}

@@ -8,8 +8,8 @@ use Rattle.listing_code.proofs.fault_lines.put_numbered.Tie as tie
 put-decimal-requires : tie.Need-put-decimal-requires
 put-decimal-requires c κs = search (needs, word-room)
 
-put-reason-requires : tie.Need-put-reason-requires
-put-reason-requires c κs = search room-second
+put-colon-requires : tie.Need-put-colon-requires
+put-colon-requires c κs = search room-second
 
 same-length : tie.Need-same-length
 same-length c = search needs
@@ -18,4 +18,4 @@ returns : tie.Need-returns
 returns c = search put-both
 
 pub put-numbered-spec : {M : Type 1} → statement M
-put-numbered-spec = tie.close (tie.spec put-decimal-requires put-reason-requires same-length returns)
+put-numbered-spec = tie.close (tie.spec put-decimal-requires put-colon-requires same-length returns)

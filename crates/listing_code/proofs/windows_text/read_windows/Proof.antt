@@ -67,11 +67,14 @@ loop-less c = omega arith
 loop-again : tie.Need-loop-again Inv-loop μ-loop
 loop-again c = search (needs, one-windowed)
 
-cast-t21 : tie.Need-cast-t21 Inv-loop μ-loop
-cast-t21 c = omega arith
+reason-beyond-requires : tie.Need-reason-beyond-requires Inv-loop μ-loop
+reason-beyond-requires c κs = search needs
 
-add-t22 : tie.Need-add-t22 Inv-loop μ-loop
-add-t22 c = omega arith
+cast-t22 : tie.Need-cast-t22 Inv-loop μ-loop
+cast-t22 c = omega arith
+
+add-t23 : tie.Need-add-t23 Inv-loop μ-loop
+add-t23 c = omega arith
 
 same-length-2 : tie.Need-same-length-2 Inv-loop μ-loop
 same-length-2 c = search needs
@@ -109,8 +112,9 @@ read-windows-spec =
     add-i
     loop-less
     loop-again
-    cast-t21
-    add-t22
+    reason-beyond-requires
+    cast-t22
+    add-t23
     same-length-2
     returns-2
     same-length-3

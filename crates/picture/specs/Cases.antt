@@ -1,0 +1,59 @@
+-- Theorem: a small plan, and all bytes of its picture: a layer with a margin, a point, a line, and one row, which is a point. Proved in proofs/Cases.antt.
+use mathlib.Core.Path.{_≡_}
+use mathlib.Core.List.{List, [], _∷_, _++_}
+use Prim.Native.Nat.{ℕ}
+use lib.IntN.{ℤ, pos}
+use Rattle.plan.specs.declared.Shape.{Shape}
+use Rattle.outcomes.specs.Texts.{ascii}
+use Rattle.picture.specs.Pictures.{picture}
+
+-- two layers of two rectangles each, the first with a margin of 100
+abbrev pub smallShape : Shape
+smallShape = record { k = 2; sizes = 2 ∷ 2 ∷ 0 ∷ 0 ∷ 0 ∷ 0 ∷ []; margins = 100 ∷ 0 ∷ 0 ∷ 0 ∷ 0 ∷ 0 ∷ [] }
+
+-- a square and a point; a rectangle at the corner of the grown square, and a line
+abbrev pub smallCells : List ℤ
+smallCells =
+    pos 0 ∷ pos 0 ∷ pos 1000 ∷ pos 1000 ∷ pos 1500 ∷ pos 2000 ∷ pos 1500 ∷ pos 2000
+    ∷ pos 1100 ∷ pos 1100 ∷ pos 2000 ∷ pos 1500 ∷ pos 2000 ∷ pos 0 ∷ pos 2000 ∷ pos 3000 ∷ []
+
+-- what is drawn of it
+abbrev pub smallPicture : List ℕ
+smallPicture = ascii "<svg xmlns='http://www.w3.org/2000/svg' viewBox='-135 -135 3855 3370'>\n<style>\n"
+    ++ ascii "path{stroke-width:8.1px;stroke-linecap:round;stroke-linejoin:round}\n"
+    ++ ascii "text{font-family:sans-serif;font-size:2px;fill:#000;stroke:none}\n.l1{stroke:#0072b2;fill:url(#h1)}\n"
+    ++ ascii ".l2{stroke:#d55e00;fill:url(#h2)}\n.l3{stroke:#009e73;fill:url(#h3)}\n.l4{stroke:#cc79a7;fill:url(#h4)}\n"
+    ++ ascii ".l5{stroke:#56b4e9;fill:url(#h5)}\n.l6{stroke:#e69f00;fill:url(#h6)}\n.m{fill:none;stroke-dasharray:21.6 16.2}\n"
+    ++ ascii ".g{stroke:#000;fill:#000;fill-opacity:.5}\n.e{stroke:#000;stroke-width:16.2px;fill:none}\n"
+    ++ ascii ".p{stroke:#000;stroke-width:.6px;fill:none}\n.k{stroke-width:.3px}\n</style>\n<defs>\n"
+    ++ ascii "<pattern id='h1' width='2' height='2' patternUnits='userSpaceOnUse' patternTransform='scale(27)'>"
+    ++ ascii "<rect y='.4' width='2' height='.3' fill='#0072b2'/></pattern>\n"
+    ++ ascii "<pattern id='h2' width='2' height='2' patternUnits='userSpaceOnUse' patternTransform='scale(27)'>"
+    ++ ascii "<rect x='.4' width='.3' height='2' fill='#d55e00'/></pattern>\n"
+    ++ ascii "<pattern id='h3' width='2' height='2' patternUnits='userSpaceOnUse' patternTransform='scale(27) rotate(45)'>"
+    ++ ascii "<rect width='.3' height='2' fill='#009e73'/></pattern>\n"
+    ++ ascii "<pattern id='h4' width='2' height='2' patternUnits='userSpaceOnUse' patternTransform='scale(27) rotate(-45)'>"
+    ++ ascii "<rect width='.3' height='2' fill='#cc79a7'/></pattern>\n"
+    ++ ascii "<pattern id='h5' width='2' height='2' patternUnits='userSpaceOnUse' patternTransform='scale(27)'>"
+    ++ ascii "<circle cx='1' cy='1' r='.4' fill='#56b4e9'/></pattern>\n"
+    ++ ascii "<pattern id='h6' width='2' height='2' patternUnits='userSpaceOnUse' patternTransform='scale(27)'>"
+    ++ ascii "<rect x='.8' y='1.2' width='1.1' height='.3' fill='#e69f00'/><rect x='1.2' y='.8' width='.3' height='1.1' fill='#e69f00'/></pattern>\n"
+    ++ ascii "</defs>\n<rect x='-135' y='-135' width='3855' height='3370' fill='#fff'/>\n"
+    ++ ascii "<g class='l1'><g transform='scale(1 -1) translate(100 -3000)'>\n"
+    ++ ascii "<g><title>layer 1, place 0</title><path d='M0 0H1000V1000H0Z'/><path class='m' d='M-100 -100H1100V1100H-100Z'/></g>\n"
+    ++ ascii "<g><title>layer 1, place 1</title><path d='M1500 2000H1500V2000H1500Z'/><path class='m' d='M1400 1900H1600V2100H1400Z'/></g>\n"
+    ++ ascii "</g><g transform='translate(2235 81)'><path transform='scale(1 -1)' d='M0 0h108v-54H0Z'/><g transform='scale(27)'><text x='5' y='1.7'>"
+    ++ ascii "layer 1, rectangles: 2, margin: 100 mm</text></g></g></g>\n<g class='l2'><g transform='scale(1 -1) translate(100 -3000)'>\n"
+    ++ ascii "<g><title>layer 2, place 0</title><path d='M1100 1100H2000V1500H1100Z'/></g>\n"
+    ++ ascii "<g><title>layer 2, place 1</title><path d='M2000 0H2000V3000H2000Z'/></g>\n"
+    ++ ascii "</g><g transform='translate(2235 162)'><path transform='scale(1 -1)' d='M0 0h108v-54H0Z'/><g transform='scale(27)'><text x='5' y='1.7'>"
+    ++ ascii "layer 2, rectangles: 2, margin: 0 mm</text></g></g></g>\n<g transform='scale(1 -1) translate(100 -3000)'>\n"
+    ++ ascii "<g><title>ROW\t2\t0\t0\t0\tP\n</title><path class='p' transform='translate(1100 1100) scale(27)' d='M-1 -1L1 1M-1 1L1 -1'/></g>\n"
+    ++ ascii "</g><g transform='translate(2235 0) scale(27)'><path class='g k' d='M0 -3h4v2H0Z'/><text x='5' y='-1.3'>all layers meet: 1</text>"
+    ++ ascii "<path class='p' d='M0 1h4'/><text x='5' y='1.7'>all meet in a line</text><path class='p' d='M27 0l2 2m0 -2l-2 2'/><text x='30' y='1.7'>"
+    ++ ascii "all meet in a point</text></g>\n"
+    ++ ascii "<g transform='translate(2235 648)'><path class='e' d='M0 0h1000'/><g transform='scale(27)'><text y='3'>1.000 m</text></g></g>\n"
+    ++ ascii "</svg>\n"
+
+pub record Cases : Type 0 where
+  pub small : picture smallShape smallCells ≡ smallPicture

@@ -1,0 +1,8 @@
+pub mod Templates
+pub mod Texts
+pub mod Markup
+pub mod Frames
+pub mod Pictures
+pub mod Theorems
+pub mod Parts
+pub mod Cases
