@@ -300,7 +300,7 @@ OVERLAY_CHECKED uint32_t overlay_timed_page(uint32_t k, const uint32_t sizes[6],
     size_t order_length, uint32_t ticket[12], uint64_t *record, size_t record_length, uint32_t budget,
     uint32_t *table, size_t table_length, uint64_t answer[5]);
 
-/* A round: m clients (the manual's tablets), 1 to 16, page through one plan out of one budget, which may be up to 2^32 - 1. They are served in turn, 1
+/* A round: m clients, 1 to 16, page through one plan out of one budget, which may be up to 2^32 - 1. They are served in turn, 1
  * after m, from `first` on. Each makes one page call, as overlay_fetch_page, with its own ticket, its own cell of the run records, the trials left divided
  * by the clients still to serve, and its own part of the table: the table is cut into m parts of table_length / (k * m) rows, that of client 1 first, and
  * the cells behind them keep what they held. `next` is left with the client that the next round starts with, and the answer with the page of each client;

@@ -7,10 +7,12 @@ use crate::hours::{shared_minutes, timed, Window, WEEK};
 use crate::nearest::nearest;
 use crate::overlay::{Overlay, Shape, Total};
 use crate::reference::{
-    count_rows, join, layers_of, number_of, pairs, rects_at, report, row_line, row_of, square_metres,
-    sweep_order, text_of, union_of, Rect, Row, REFERENCE,
+    count_rows, join, layers_of, pairs, rects_at, report, row_of, square_metres, sweep_order, text_of,
+    union_of, Rect, Row, REFERENCE,
 };
+use crate::report::row_line;
 use crate::surveys::{cover_records, Survey};
+use crate::text::number_of;
 
 const HEADER: &str = include_str!("../../include/overlay.h");
 

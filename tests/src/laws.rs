@@ -4,7 +4,6 @@ use crate::call::Plan;
 use crate::compare::Difference;
 use crate::overlay::{Overlay, Run, Shape};
 use crate::seeds::{grown_by, shape_of, Seeds, STYLES};
-use crate::wrong::Slip;
 use std::collections::BTreeMap;
 
 /// How many small plans are drawn.
@@ -219,15 +218,15 @@ pub const WRONG_LAWS: [(Laws, &str); 10] = [
     ),
 ];
 
-/// Wrong overlays that break a law, whatever the reference says.
-pub const LAWLESS: [Slip; 7] = [
-    Slip::TiesTwice,
-    Slip::NeighbourMargin,
-    Slip::GroundGuards,
-    Slip::GroundNeighbours,
-    Slip::KindOfFirstPair,
-    Slip::KindOfLastPair,
-    Slip::SidesOfGuard,
+/// Wrong overlays that break a law, whatever the reference says, by what is wrong with them.
+pub const LAWLESS: [&str; 7] = [
+    "guards chosen with <= on both sides, so ties list a row twice",
+    "the margin of the neighbour layer",
+    "the ground of the guards",
+    "ground taken off only where it lies under the row before",
+    "the kind of what the first two rectangles have in common",
+    "the kind of what the last two rectangles have in common",
+    "the sides of the guard",
 ];
 
 /// Laws under trial, and what was seen so far.

@@ -1,12 +1,10 @@
 //! The rules of the plan overlay written a second time, and a comparison of two overlays.
 //!
-//! An overlay under test implements `overlay::Overlay` and is handed to `compare::compare` beside
-//! `reference::REFERENCE`; its report is handed to `reports::compare_reports` beside
-//! `reference::report`, its call on survey records to `surveys::compare_surveys` beside
-//! `surveys::cover_records`, its rounds to `rounds::compare_rounds` beside `rounds::round`, and its timed
-//! calls to `hours::compare_hours` beside `hours::ByWords(None)`; what its program says to
-//! `program::compare_programs` beside `commands::answer`, and its command `check` to `checks::compare_checks` beside `checks::check`. All give their counts, or the first
-//! difference with the whole case. `laws::try_laws` takes the overlay under test alone.
+//! Each call has a folder: what 01 and 02 say of it, written in the most direct way (`mod.rs`), its wrong versions, a table of functions with what is wrong of
+//! each (`slips.rs`), and its comparison (`compare.rs`). Calls of one plan are compared together: an overlay under test implements `overlay::Overlay` and is
+//! handed to `compare::compare` beside `reference::REFERENCE`. The others are handed to a comparison of their own: reports, nearest, surveys, crossings, rounds,
+//! hours, and what the program says (`program`, beside `commands`; `check` beside `checks`). All give their counts, or the first difference with the whole
+//! case. `laws::try_laws` takes the overlay under test alone.
 
 pub mod call;
 pub mod checks;
@@ -17,11 +15,20 @@ pub mod hours;
 pub mod known;
 pub mod laws;
 pub mod nearest;
+pub mod order;
 pub mod overlay;
+pub mod page;
+pub mod pair;
+pub mod plan;
 pub mod program;
 pub mod reference;
-pub mod reports;
+pub mod report;
 pub mod rounds;
+pub mod row;
+pub mod run;
 pub mod seeds;
+pub mod slips;
 pub mod surveys;
-pub mod wrong;
+pub mod text;
+
+pub use report::compare as reports;

@@ -9,10 +9,11 @@ use overlay_tests::laws::{try_laws, LAWLESS, LAWS, WRONG_LAWS};
 use overlay_tests::nearest::{compare_nearest, nearest, WRONG_NEAREST};
 use overlay_tests::program::compare_programs;
 use overlay_tests::reference::{report, REFERENCE};
+use overlay_tests::report::slips::SLIPS as REPORT_SLIPS;
 use overlay_tests::reports::compare_reports;
 use overlay_tests::rounds::{compare_rounds, round, ByWords as RoundByWords, SLIPS as ROUND_SLIPS};
+use overlay_tests::slips::slips;
 use overlay_tests::surveys::{compare_surveys, cover_records, wrong_surveys};
-use overlay_tests::wrong::{Wrong, REPORT_SLIPS, SLIPS};
 use std::process::exit;
 
 /// Prints a difference and stops with an error.
@@ -23,8 +24,8 @@ fn stop(text: &str) -> ! {
 
 /// Every wrong overlay must differ from the reference somewhere.
 fn catch_wrong_overlays() {
-    for (slip, name) in SLIPS {
-        match compare(&Wrong(slip), &REFERENCE) {
+    for (wrong, name) in slips() {
+        match compare(&wrong, &REFERENCE) {
             Err(found) => {
                 println!("wrong overlay caught after {} cases ({}): {name}", found.cases, found.kind)
             }
@@ -123,8 +124,8 @@ fn catch_wrong_laws() {
             Ok(_) => stop(&format!("wrong law not caught: {name}")),
         }
     }
-    for (slip, name) in SLIPS.into_iter().filter(|(slip, _)| LAWLESS.contains(slip)) {
-        match try_laws(&Wrong(slip), &LAWS) {
+    for (wrong, name) in slips().filter(|(_, name)| LAWLESS.contains(name)) {
+        match try_laws(&wrong, &LAWS) {
             Err(found) => println!("law broken after {} cases ({}): {name}", found.cases, found.kind),
             Ok(_) => stop(&format!("no law broken: {name}")),
         }

@@ -173,7 +173,7 @@ fn all_asked() -> Vec<Asked> {
         let plan = seeds.plan(2 + (round % 5) as usize, (round / 5) % STYLES);
         let plan = if round % 2 == 1 { seeds.with_margins(plan) } else { plan };
         of_plan(&mut seeds, &plan, &mut all);
-        let crossing = crossings::drawn(&mut seeds, 3 + (round % 4) as usize);
+        let crossing = crossings::compare::drawn(&mut seeds, 3 + (round % 4) as usize);
         all.push(asked("classes", &text(&crossing), b""));
     }
     // More rows than the report's table takes, texts that are none, and texts that are too long.

@@ -1,11 +1,10 @@
-//! The declarations of the C interface say the same: the header, the library's exported functions, and the extern block of the Rust crate. Header, manual, Rust
-//! crate and Python module tell the causes in the same words, and have the same version and limits.
+//! The declarations of the C interface say the same: the header, of which the Rust crate makes its own, the library's exported functions, and the Python
+//! module's table of calls. Header, manuals, Rust crate and Python module tell the causes in the same words, and have the same version and limits.
 
 use overlay_tests::commands::{cause_words, version, OWN_WORDS};
 
 const HEADER: &str = include_str!("../../include/overlay.h");
 const LIBRARY: &str = include_str!("../../crates/capi/src/lib.rt");
-const WRAPPER: &str = include_str!("../../rust/src/sys.rs");
 const CAUSES: &str = include_str!("../../rust/src/cause.rs");
 const CRATE: &str = include_str!("../../rust/src/lib.rs");
 const MODULE: &str = include_str!("../../python/overlay.py");
@@ -80,19 +79,6 @@ fn in_header(header: &str) -> Vec<Function> {
     sorted(prototypes.map(read).collect())
 }
 
-/// The functions of a Rust or Rattle text, each after `mark`. A result ends at `end`.
-fn in_code(text: &str, mark: &str, end: &[char], parameter: fn(&str) -> Vec<String>) -> Vec<Function> {
-    let read = |text: &str| {
-        let (name, rest) = text.split_once('(').expect("parameters");
-        let (list, rest) = rest.split_once(") -> ").expect("a result");
-        let mut function = vec![name.to_string()];
-        function.extend(parts(list).flat_map(parameter));
-        function.push(rest.split(end).next().expect("a result").to_string());
-        function
-    };
-    sorted(text.split(mark).skip(1).map(read).collect())
-}
-
 /// A parameter of Rattle as the C interface passes it: a slice as a pointer and a length, a reference as a pointer. A counter is a run record there.
 fn rattle_parameter(text: &str) -> Vec<String> {
     let (name, kind) = text.split_once(": ").expect("a name and a type");
@@ -109,13 +95,15 @@ fn rattle_parameter(text: &str) -> Vec<String> {
 
 /// The exported functions of the library.
 fn in_library(text: &str) -> Vec<Function> {
-    in_code(text, "pub extern \"C\" fn ", &['\n'], rattle_parameter)
-}
-
-/// The declarations of the wrapper.
-fn in_wrapper(text: &str) -> Vec<Function> {
-    let block = between(text, "extern \"C\" {", "\n}");
-    in_code(block, "fn ", &[';'], |parameter| vec![parameter.to_string()])
+    let read = |text: &str| {
+        let (name, rest) = text.split_once('(').expect("parameters");
+        let (list, rest) = rest.split_once(") -> ").expect("a result");
+        let mut function = vec![name.to_string()];
+        function.extend(parts(list).flat_map(rattle_parameter));
+        function.push(rest.lines().next().expect("a result").to_string());
+        function
+    };
+    sorted(text.split("pub extern \"C\" fn ").skip(1).map(read).collect())
 }
 
 /// By name.
@@ -124,27 +112,57 @@ fn sorted(mut functions: Vec<Function>) -> Vec<Function> {
     functions
 }
 
-/// The functions with a plain pointer in place of a pointer to an array: the wrapper's form.
-fn plain(functions: &[Function]) -> Vec<Function> {
-    let word = |text: &String| match text.split_once('[') {
-        Some((start, _)) => format!("{start}{}", between(text, "[", ";")),
-        None => text.clone(),
-    };
-    functions.iter().map(|function| function.iter().map(word).collect()).collect()
-}
-
-/// Whether the three say the same.
-fn agree(header: &str, library: &str, wrapper: &str) -> bool {
-    let functions = in_header(header);
-    functions == in_library(library) && plain(&functions) == in_wrapper(wrapper)
+/// Whether the two say the same.
+fn agree(header: &str, library: &str) -> bool {
+    in_header(header) == in_library(library)
 }
 
 #[test]
-fn header_library_and_wrapper_agree() {
+fn header_and_library_agree() {
     let functions = in_header(HEADER);
     assert_eq!(functions.len(), 21);
     assert_eq!(functions, in_library(LIBRARY));
-    assert_eq!(plain(&functions), in_wrapper(WRAPPER));
+}
+
+/// The kinds of a call's parameters as the Python module names them, without its names for several.
+fn kinds(types: &str) -> Vec<String> {
+    let slice = "_POINTER, _LENGTH";
+    let plan = format!("_U32, _POINTER, _POINTER, {slice}");
+    let all = types.replace("*_PLAN", &plan).replace("*_SLICE", slice);
+    parts(all.trim_matches(['(', ')'])).map(str::to_string).collect()
+}
+
+/// The calls of the Python module.
+fn in_table(module: &str) -> Vec<Function> {
+    let table = between(module, "_CALLS = {", "\n}");
+    let read = |line: &str| {
+        let (name, types) = line.trim().split_once(": ").expect("a call and its types");
+        let mut function = vec![format!("overlay_{}", name.trim_matches('"'))];
+        function.extend(kinds(
+            types.trim_end_matches(',').replace("_PLAN", "*_PLAN").replace("**", "*").as_str(),
+        ));
+        function
+    };
+    sorted(table.lines().filter(|line| !line.trim().is_empty()).map(read).collect())
+}
+
+#[test]
+fn header_and_module_agree() {
+    let kind = |parameter: &String| match parameter.split_once(": ").expect("a name and a type").1 {
+        "u32" => "_U32".to_string(),
+        "u64" => "_U64".to_string(),
+        "usize" => "_LENGTH".to_string(),
+        other => if other.starts_with('*') { "_POINTER" } else { other }.to_string(),
+    };
+    let plain = |function: Function| {
+        let (name, parameters) = (function[0].clone(), &function[1..function.len() - 1]);
+        std::iter::once(name).chain(parameters.iter().map(kind)).collect::<Function>()
+    };
+    // overlay_version_14 is asked for by its name alone
+    let functions =
+        in_header(HEADER).into_iter().filter(|function| !function[0].starts_with("overlay_version_"));
+    assert_eq!(functions.map(plain).collect::<Vec<_>>(), in_table(MODULE));
+    assert_ne!(in_table(&changed(MODULE, "_U32, _U32, _U64", "_U32, _U64, _U32")), in_table(MODULE));
 }
 
 /// The text with the first occurrence of a part replaced.
@@ -215,34 +233,11 @@ fn every_change_is_noticed() {
         ("hours: &[u32]", "hours: &mut [u32]"),
         ("#[no_mangle]\npub extern \"C\" fn overlay_row(", "fn overlay_row("),
     ];
-    let wrapper = [
-        ("fn overlay_row(", "fn overlay_rows("),
-        ("fn overlay_version_14(", "fn overlay_version_13("),
-        ("cells: *const i32", "cells: *mut i32"),
-        ("cells: *const i32", "cells: *const u32"),
-        ("        budget: u32,\n", ""),
-        ("        record_length: usize,\n", ""),
-        ("record: *mut u64", "record: *mut u32"),
-        ("        work_length: usize,\n", ""),
-        ("work: *mut i32", "work: *mut u32"),
-        ("answer: *mut i32", "answer: *mut u64"),
-        ("        margins: *const u32,\n", ""),
-        ("        margins: *mut u32,\n", ""),
-        ("budget: u32", "budget: u64"),
-        ("size: *mut usize", "size: *mut u32"),
-        ("stops: *const f64", "stops: *const u64"),
-        ("        hours_length: usize,\n", ""),
-        ("hours: *const u32", "hours: *mut u32"),
-        (") -> u32;", ") -> u64;"),
-    ];
     for (old, new) in header {
-        assert!(!agree(&changed(HEADER, old, new), LIBRARY, WRAPPER), "header: {old:?} as {new:?}");
+        assert!(!agree(&changed(HEADER, old, new), LIBRARY), "header: {old:?} as {new:?}");
     }
     for (old, new) in library {
-        assert!(!agree(HEADER, &changed(LIBRARY, old, new), WRAPPER), "library: {old:?} as {new:?}");
-    }
-    for (old, new) in wrapper {
-        assert!(!agree(HEADER, LIBRARY, &changed(WRAPPER, old, new)), "wrapper: {old:?} as {new:?}");
+        assert!(!agree(HEADER, &changed(LIBRARY, old, new)), "library: {old:?} as {new:?}");
     }
 }
 

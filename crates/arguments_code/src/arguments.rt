@@ -14,14 +14,14 @@ ghost use mathlib.Core.Path.{_≡_};
 ghost use Prim.Native.Nat.{_-_, _≤_, _<_};
 ghost use lib.ListN.{length};
 ghost use Rattle.lists.specs.Lists.{same};
-ghost use Rattle.outcomes.specs.Texts.{partAt};
+ghost use Rattle.outcomes.specs.Texts.{textPart};
 ghost use Rattle.commands.specs.Commands.{commandWords};
-ghost use Rattle.commands.specs.Arguments.{ended, countOf, argument, isNumber, numberOf, boxOf, naturalOf, layerIn, placesFrom};
-ghost use Rattle.commands.specs.Arguments.{numbersFrom, commandNumber, looked, fewer, numbersIn, callOf, within, fits};
+ghost use Rattle.commands.specs.Arguments.{ended, argumentCount, argument, isNumber, argumentValue, boxOf, naturalOf, layerIn, placesFrom};
+ghost use Rattle.commands.specs.Arguments.{leadingNumbers, commandNumber, looked, fewer, numbersIn, commandCall, isBetween, takesAll};
 
 // How many arguments there are.
 pub fn count_arguments(arguments: &[u8]) -> usize
-    ensures { λ r. ⌜ r ≡ countOf (now (arguments .entry)) ⌝ }
+    ensures { λ r. ⌜ r ≡ argumentCount (now (arguments .entry)) ⌝ }
 {
     let mut n: usize = 0;
     let mut i: usize = 0;
@@ -61,7 +61,7 @@ pub fn same_bytes(a: &[u8], b: &[u8]) -> bool
 
 // Whether a word is that of a command.
 fn is_command(word: &[u8], i: u32) -> bool
-    ensures { λ r. ⌜ r ≡ same (now (word .entry)) (partAt 0 i commandWords) ⌝ }
+    ensures { λ r. ⌜ r ≡ same (now (word .entry)) (textPart 0 i commandWords) ⌝ }
 {
     let words = command_words();
     is_part(word, &words, i)
@@ -69,7 +69,7 @@ fn is_command(word: &[u8], i: u32) -> bool
 
 // Whether a word is a part of a text.
 fn is_part(word: &[u8], text: &[u8], i: u32) -> bool
-    ensures { λ r. ⌜ r ≡ same (now (word .entry)) (partAt 0 i (now (text .entry))) ⌝ }
+    ensures { λ r. ⌜ r ≡ same (now (word .entry)) (textPart 0 i (now (text .entry))) ⌝ }
 {
     let from = part_from(text, i, 0);
     let end = end_of(text, from, 0);
@@ -120,7 +120,7 @@ pub fn names_number(arguments: &[u8], i: u32) -> bool
 
 // The number that a word starts with, or 0.
 fn number_of(word: &[u8]) -> i32
-    ensures { λ r. ⌜ r ≡ numberOf (now (word .entry)) ⌝ }
+    ensures { λ r. ⌜ r ≡ argumentValue (now (word .entry)) ⌝ }
 {
     match read_number(word, 0) {
         Number::Bad => 0,
@@ -130,7 +130,7 @@ fn number_of(word: &[u8]) -> i32
 
 // The number that an argument is.
 fn number_at(arguments: &[u8], i: u32) -> i32
-    ensures { λ r. ⌜ r ≡ numberOf (argument i (now (arguments .entry))) ⌝ }
+    ensures { λ r. ⌜ r ≡ argumentValue (argument i (now (arguments .entry))) ⌝ }
 {
     let from = part_from(arguments, i, 0);
     let end = end_of(arguments, from, 0);
@@ -165,7 +165,7 @@ fn natural_of(z: i32) -> u32
 
 // The layer or the place that an argument is.
 fn natural_at(arguments: &[u8], i: u32) -> u32
-    ensures { λ r. ⌜ r ≡ naturalOf (numberOf (argument i (now (arguments .entry)))) ⌝ }
+    ensures { λ r. ⌜ r ≡ naturalOf (argumentValue (argument i (now (arguments .entry)))) ⌝ }
 {
     natural_of(number_at(arguments, i))
 }
@@ -199,7 +199,7 @@ pub fn fill_places(arguments: &[u8], places: &mut [u32])
 // How many of the first arguments behind the command's word, at most so many, are taken for numbers; 1 says that `-` may stand for one.
 fn count_numbers(dash: usize, arguments: &[u8], most: u32) -> u32
     requires { ⌜ most ≤ 7 ⌝ }
-    ensures { λ r. ⌜ (r ≡ numbersFrom dash (now (arguments .entry)) 1 most) × (r ≤ most) ⌝ }
+    ensures { λ r. ⌜ (r ≡ leadingNumbers dash (now (arguments .entry)) 1 most) × (r ≤ most) ⌝ }
 {
     let mut n: u32 = 0;
     while n < most {
@@ -236,7 +236,7 @@ fn fewer_of(n: usize, m: u32) -> u32
 
 // How many numbers there are behind the word of a command, where there are so many arguments.
 fn numbers_of(command: u32, arguments: &[u8], count: usize) -> usize
-    requires { ⌜ count ≡ countOf (now arguments) ⌝ }
+    requires { ⌜ count ≡ argumentCount (now arguments) ⌝ }
     ensures { λ r. ⌜ (r ≡ numbersIn command (now (arguments .entry))) × (r ≤ 7) × (r ≤ count - 1) ⌝ }
 {
     let most = fewer_of(limit_or(command, 1), looked_at(count));
@@ -246,7 +246,7 @@ fn numbers_of(command: u32, arguments: &[u8], count: usize) -> usize
 
 // What the arguments ask for.
 pub fn call_of(arguments: &[u8]) -> Call
-    ensures { λ r. ⌜ (r ≡ callOf (now (arguments .entry))) × (r .numbers ≤ 7) ⌝ }
+    ensures { λ r. ⌜ (r ≡ commandCall (now (arguments .entry))) × (r .numbers ≤ 7) ⌝ }
 {
     let count = count_arguments(arguments);
     let command = named_command(arguments, 0);
@@ -272,7 +272,7 @@ fn rest_of(count: usize, numbers: usize) -> usize
 
 // Whether a number is from the low one to the high one.
 fn is_within(low: usize, n: usize, high: usize) -> bool
-    ensures { λ r. ⌜ r ≡ within low n high ⌝ }
+    ensures { λ r. ⌜ r ≡ isBetween low n high ⌝ }
 {
     if n < low {
         return false;
@@ -282,7 +282,7 @@ fn is_within(low: usize, n: usize, high: usize) -> bool
 
 // Whether the command is one, and takes as many numbers and names as there are.
 pub fn is_fit(call: Call) -> bool
-    ensures { λ r. ⌜ r ≡ fits call ⌝ }
+    ensures { λ r. ⌜ r ≡ takesAll call ⌝ }
 {
     let c = call.command;
     if MOST_COMMANDS <= c {

@@ -23,9 +23,9 @@ use Rattle.outcomes.specs.Outcomes.{Outcome, refused}
 use Rattle.asking.specs.Roots.{root}
 use Rattle.asking.specs.Lines.{shareLine, apartLine, nearLine, pairLine, countLine}
 use Rattle.asking.specs.Answers.{textCause, onPlan}
-use Rattle.asking.specs.Theorems.{LinesHold, TextsHold}
+use Rattle.asking.specs.Theorems.{AnswerLinesHold, TextsHold}
 
-pub lines-hold : LinesHold
+pub lines-hold : AnswerLinesHold
 unfolding shareLine apartLine nearLine pairLine countLine lineOf rowFields squareMetres
 lines-hold = record {
   share = refl;

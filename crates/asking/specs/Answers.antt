@@ -39,8 +39,8 @@ apartOf t places = onPlan t (λ s cells. pairOutcome (pairCall s cells places))
 unfoldable pub nearOutcome : Shape → List ℤ → Rect → Outcome
 nearOutcome s cells box = let r = nearestCall s cells box in onCause (r .number) (done (nearLines (s .k) (r .layers))) refused
 
-abbrev pub nearestOf : List ℕ → (box : Rect) → Outcome
-nearestOf t box = onPlan t (λ s cells. nearOutcome s cells box)
+abbrev pub nearestSaid : List ℕ → (box : Rect) → Outcome
+nearestSaid t box = onPlan t (λ s cells. nearOutcome s cells box)
 
 -- ---- `pairs [LAYER]`: the rows of each two layers; with a number, of each two of which one has it. 0 stands for no number. A plan has no layer past k
 unfoldable pub pairsOutcome : Shape → List ℤ → (layer : ℕ) → Outcome

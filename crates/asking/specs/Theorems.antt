@@ -55,7 +55,7 @@ pub record PairsHold (s : Shape) (cells : List ℤ) (layer : ℕ) : Type 0 where
   pub once : Distinct (pairRows s cells layer)
 
 -- ---- the lines, byte by byte
-pub record LinesHold : Type 0 where
+pub record AnswerLinesHold : Type 0 where
   -- S H A R E; A P A R T and both layers
   pub share : shareLine ≡ 83 ∷ 72 ∷ 65 ∷ 82 ∷ 69 ∷ 10 ∷ []
   pub apart : (lower higher : ℕ) → apartLine lower higher
@@ -86,5 +86,5 @@ pub record Asking : Type 0 where
   pub roots : (n : ℕ) → Rooted n
   pub two : (s : Shape) (cells : List ℤ) → Sound s cells → (i j : ℕ) → i < s .k → j < s .k → TwoHold s cells i j
   pub pairs : (s : Shape) (cells : List ℤ) → Sound s cells → (layer : ℕ) → PairsHold s cells layer
-  pub lines : LinesHold
+  pub lines : AnswerLinesHold
   pub texts : TextsHold

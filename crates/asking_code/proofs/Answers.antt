@@ -7,7 +7,7 @@ use native.Mathlib.Omega.{arith}
 use lib.IntN.{ℤ}
 use lib.ListN.{length, getD, take, drop, length-append}
 use Rattle.lists.specs.Lists.{sum}
-use Rattle.lists.specs.Stores.{Put}
+use Rattle.lists.specs.inner.Stores.{Put}
 use Rattle.decimal.specs.Numerals.{decimal}
 use Rattle.geometry.specs.declared.Rect.{Rect}
 use Rattle.geometry.specs.Rectangles.{inExtent}
@@ -30,13 +30,13 @@ use Rattle.pairs.specs.declared.PairAnswer.the-variants.{Refused, Share, Pair}
 use Rattle.pairs.specs.PairCall.{pairCall}
 use Rattle.text.specs.declared.Reading.{Reading}
 use Rattle.printing.specs.Lines.{fieldsEnd, lineOf}
-use Rattle.printing.specs.Parts.{FitsAt}
+use Rattle.printing.specs.inner.Parts.{FitsAt}
 use Rattle.outcomes.specs.declared.Reply.{Reply}
 use Rattle.outcomes.specs.Outcomes.{Told, refused, done}
-use Rattle.outcomes.specs.Rooms.{Room}
+use Rattle.outcomes.specs.inner.Rooms.{Room}
 use Rattle.outcomes.proofs.Outcomes.{told-same, told-done}
 use Rattle.asking.specs.Lines.{shareLine, apartLine, nearLines}
-use Rattle.asking.specs.Answers.{pairOutcome, apartOf, nearOutcome, nearestOf}
+use Rattle.asking.specs.Answers.{pairOutcome, apartOf, nearOutcome, nearestSaid}
 use Rattle.asking_code.specs.Parts.{mostGap, Measured, TextRead}
 use Rattle.asking_code.proofs.Texts.{read-plan}
 use Rattle.asking_code.proofs.NearLines.{few, nears-few}
@@ -137,5 +137,5 @@ module _ (t : List ℕ) (r : Reading) (lent : List ℤ) (read : TextRead t r len
       → Told (apartOf t places) out err outAfter errAfter reply
   apart-read places k = told-same _ out err outAfter errAfter reply _ k (read-plan t r lent read h n e (λ s cells. pairOutcome (pairCall s cells places)))
 
-  pub nearest-read : (box : Rect) → Told (nearOutcome (r .shape) (take (4 * n) lent) box) out err outAfter errAfter reply → Told (nearestOf t box) out err outAfter errAfter reply
+  pub nearest-read : (box : Rect) → Told (nearOutcome (r .shape) (take (4 * n) lent) box) out err outAfter errAfter reply → Told (nearestSaid t box) out err outAfter errAfter reply
   nearest-read box k = told-same _ out err outAfter errAfter reply _ k (read-plan t r lent read h n e (λ s cells. nearOutcome s cells box))

@@ -8,7 +8,7 @@ use lib.IntN.{ℤ, pos}
 use lib.ListN.{length, getD, set, take, drop, drop-of-length-le, length-take}
 use lib.Seq.{drop-cons}
 use Rattle.lists.specs.Lists.{sum}
-use Rattle.lists.specs.Stores.{Put}
+use Rattle.lists.specs.inner.Stores.{Put}
 use Rattle.lists.proofs.Stores.{Left, left-all, left-byte, left-put, left-last, left-none, put-length}
 use Rattle.asking_code.specs.Parts.{partOf, LayerThere}
 

@@ -8,7 +8,7 @@ use native.Mathlib.Numerals.{add-one}
 use native.Mathlib.Omega.{arith}
 use lib.ListN.{length, getD, length-append}
 use Rattle.lists.specs.Lists.{each}
-use Rattle.lists.specs.Stores.{Put}
+use Rattle.lists.specs.inner.Stores.{Put}
 use Rattle.lists.proofs.Kept.{each-short}
 use Rattle.lists.proofs.Stores.{Left, left-all, left-put, left-none}
 use Rattle.decimal.specs.Numerals.{digits, decimal}
@@ -16,7 +16,7 @@ use Rattle.decimal.proofs.Numerals.{length-decimal, size-most}
 use Rattle.nearest.specs.declared.Near.{Near}
 use Rattle.nearest.specs.Nearest.{nothing}
 use Rattle.printing.specs.Lines.{fieldsEnd, lineOf, squareMetres}
-use Rattle.printing.specs.Parts.{FitsAt}
+use Rattle.printing.specs.inner.Parts.{FitsAt}
 use Rattle.printing.proofs.Puts.{room-left}
 use Rattle.outcomes.specs.Texts.{ascii}
 use Rattle.asking.specs.Roots.{root}

@@ -12,15 +12,15 @@ use Rattle.plan.specs.Plan.{Layer, layersOf}
 use Rattle.rows.specs.declared.Ground.{Ground}
 use Rattle.rows.specs.declared.Sharing.{Sharing}
 use Rattle.rows.specs.declared.Sharing.the-variants.{Shared}
-use Rattle.rows.specs.Grounds.{groundOf}
+use Rattle.rows.specs.inner.Grounds.{groundOf}
 use Rattle.rows.proofs.Answers.{ground-area, ground-kind}
 use Rattle.rows.specs.RowCall.{isRow}
 use Rattle.rows.specs.Tables.{rowsIn}
-use Rattle.rows.specs.TableRows.{TableRows}
+use Rattle.rows.specs.inner.TableRows.{TableRows}
 use Rattle.rows.proofs.TableRows.{Ahead, none-read, rows-split, next-is-row, one-read, row-inside}
-use Rattle.lists.specs.Stores.{Put}
+use Rattle.lists.specs.inner.Stores.{Put}
 use Rattle.lists.proofs.Stores.{Left, left-all, left-put, left-none}
-use Rattle.printing.specs.Parts.{FitsAt}
+use Rattle.printing.specs.inner.Parts.{FitsAt}
 use Rattle.printing.proofs.Puts.{room-left}
 use Rattle.asking.specs.Lines.{pairLine}
 use Rattle.asking_code.specs.Parts.{ofTwo, linesOfTwo, pairFields}

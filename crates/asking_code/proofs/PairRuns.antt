@@ -7,7 +7,7 @@ use Prim.Native.Nat.{ℕ, _+_, _≤_, _<_}
 use native.Mathlib.Omega.{arith}
 use lib.IntN.{ℤ}
 use lib.ListN.{length, take, length-take}
-use Rattle.lists.specs.Stores.{Put}
+use Rattle.lists.specs.inner.Stores.{Put}
 use Rattle.lists.proofs.Tests.{clash}
 use Rattle.plan.specs.declared.Shape.{Shape}
 use Rattle.plan.specs.Plan.{count, layers, grown}
@@ -18,7 +18,7 @@ use Rattle.sweep.specs.Sweep.{sweepOrder}
 use Rattle.sweep.proofs.Theorems.{order-passes}
 use Rattle.join.specs.Table.{planTable}
 use Rattle.rows.specs.Tables.{rowsIn}
-use Rattle.rows.specs.TableRows.{TableRows}
+use Rattle.rows.specs.inner.TableRows.{TableRows}
 use Rattle.rows.proofs.TableRows.{table-rows}
 use Rattle.totals.specs.declared.Total.{Total}
 use Rattle.paging.specs.declared.Run.{Run}
@@ -28,7 +28,7 @@ use Rattle.paging.specs.Pages.{room}
 use Rattle.paging.specs.Calls.{runCause, runCall, runTable, runValues, WorkAfter}
 use Rattle.paging.specs.Theorems.{RunHolds}
 use Rattle.paging.proofs.Runs.{run-holds}
-use Rattle.printing.specs.Parts.{FitsAt}
+use Rattle.printing.specs.inner.Parts.{FitsAt}
 use Rattle.asking_code.specs.declared.Listed.{Listed}
 use Rattle.asking_code.specs.Parts.{linesOfTwo}
 use Rattle.asking_code.specs.Listing.{mostPairCells, Lent, Twofold, TwoListable, TwoListed, Ran}

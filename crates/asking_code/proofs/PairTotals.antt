@@ -21,7 +21,7 @@ use Rattle.join.specs.Join.{Within, no-layer, _below_, areaIn, kindIn}
 use Rattle.join.specs.Table.{planTable}
 use Rattle.printing.specs.Lines.{fieldsEnd, lineOf, rowFields}
 use Rattle.printing.proofs.Lines.{row-parts}
-use Rattle.printing.specs.Parts.{tabbed}
+use Rattle.printing.specs.inner.Parts.{tabbed}
 use Rattle.asking.specs.Pairs.{twoShape, twoCells, PairRow, rowsOfTwo, asked, rowsWith, pairRows}
 use Rattle.asking.specs.Lines.{pairLine, twoLine}
 use Rattle.asking.specs.Theorems.{twoLayers, ToldRow}

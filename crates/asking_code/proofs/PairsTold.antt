@@ -7,19 +7,19 @@ use lib.IntN.{ℤ}
 use lib.ListN.{length, take, length-append}
 use borrow.Author.Tests.{le-leb, lt-leb}
 use Rattle.lists.specs.Lists.{sum}
-use Rattle.lists.specs.Stores.{Put}
+use Rattle.lists.specs.inner.Stores.{Put}
 use Rattle.lists.proofs.Stores.{put-length}
 use Rattle.decimal.specs.Numerals.{decimal}
 use Rattle.plan.specs.declared.Shape.{Shape}
 use Rattle.plan.specs.Plan.{Sound}
 use Rattle.text.specs.declared.Reading.{Reading}
 use Rattle.printing.specs.Lines.{lineOf}
-use Rattle.printing.specs.Parts.{FitsAt}
+use Rattle.printing.specs.inner.Parts.{FitsAt}
 use Rattle.printing.proofs.Puts.{put-both}
 use Rattle.outcomes.specs.declared.Reply.{Reply}
 use Rattle.outcomes.specs.Texts.{ascii}
 use Rattle.outcomes.specs.Outcomes.{Told, misused}
-use Rattle.outcomes.specs.Rooms.{Room}
+use Rattle.outcomes.specs.inner.Rooms.{Room}
 use Rattle.outcomes.proofs.Outcomes.{told-same, told-done}
 use Rattle.asking.specs.Pairs.{pairRows}
 use Rattle.asking.specs.Lines.{twoLine, countLine, pairLines}

@@ -8,7 +8,7 @@ use lib.IntN.{ℤ}
 use lib.ListN.{length, getD, take, drop, length-append, length-take, length-map}
 use lib.Seq.{take-at}
 use Rattle.lists.specs.Lists.{rowsBelow, sum}
-use Rattle.lists.specs.Stores.{Put}
+use Rattle.lists.specs.inner.Stores.{Put}
 use Rattle.lists.proofs.Kept.{each-short}
 use Rattle.lists.proofs.Stores.{put-start, put-length}
 use Rattle.plan.specs.declared.Shape.{Shape}
@@ -17,7 +17,7 @@ use Rattle.plan.proofs.Plan.{checked}
 use Rattle.plan.proofs.Spots.{layer-within}
 use Rattle.join.specs.Table.{sizesIn, planTable}
 use Rattle.join.proofs.Table.{within-rows}
-use Rattle.strips.proofs.Known.{distinct-few}
+use Rattle.ground_code.proofs.Known.{distinct-few}
 use Rattle.symmetry.proofs.Sheets.{sheets-of}
 use Rattle.asking.specs.Pairs.{twoShape, twoCells, PairRow, rowsOfTwo}
 use Rattle.asking.specs.Lines.{twoLine}

@@ -6,14 +6,14 @@ use mathlib.Core.Option.{none}
 use Prim.Native.Nat.{ℕ, _+_, _≤_}
 use lib.IntN.{ℤ}
 use lib.ListN.{length}
-use Rattle.lists.specs.Stores.{Put}
+use Rattle.lists.specs.inner.Stores.{Put}
 use Rattle.plan.specs.declared.Shape.{Shape}
 use Rattle.plan.specs.Plan.{grown, layers, Sound}
 use Rattle.sweep.specs.Sweep.{sweepOrder}
 use Rattle.join.specs.Table.{planTable}
 use Rattle.paging.specs.declared.Run.{Run}
 use Rattle.paging.specs.Calls.{runCall, runTable}
-use Rattle.printing.specs.Parts.{FitsAt}
+use Rattle.printing.specs.inner.Parts.{FitsAt}
 use Rattle.asking.specs.Pairs.{PairRow, rowsOfTwo, asked}
 use Rattle.asking_code.specs.declared.Listed.{Listed}
 use Rattle.asking_code.specs.Parts.{linesOfTwo}

@@ -16,7 +16,7 @@ use Rattle.outcomes.specs.Texts.{ascii}
 use Rattle.asking.specs.Lines.{nearLine, pairLine}
 use Rattle.text.specs.declared.Reading.{Reading}
 use Rattle.text.specs.Reader.{textShape, textCells}
-use Rattle.reporting.specs.Parts.{planCells, Lent}
+use Rattle.reporting.specs.inner.Parts.{planCells, Lent}
 use Rattle.asking.specs.Answers.{textCause}
 
 -- a plan as it was read: its cells stand first in the lent ones

@@ -1,17 +1,17 @@
 // The lines of `nearest`.
 use crate::roots::whole_root;
 use nearest::Near;
-use printer::end_line;
-use printer::put_field;
-use printer::put_last;
-use printer::put_metres;
+use printing_code::end_line;
+use printing_code::put_field;
+use printing_code::put_last;
+use printing_code::put_metres;
 use speller::put_word;
 ghost use mathlib.Core.List.{[], _∷_};
 ghost use Prim.Native.Nat.{_≤_};
 ghost use Rattle.decimal.specs.Numerals.{decimal};
-ghost use Rattle.lists.specs.Stores.{Put};
+ghost use Rattle.lists.specs.inner.Stores.{Put};
 ghost use Rattle.printing.specs.Lines.{fieldsEnd};
-ghost use Rattle.printing.specs.Parts.{FitsAt};
+ghost use Rattle.printing.specs.inner.Parts.{FitsAt};
 ghost use Rattle.asking.specs.Lines.{millimetres, nearLine};
 ghost use Rattle.asking_code.specs.Parts.{mostGap, noneLine, foundLine};
 

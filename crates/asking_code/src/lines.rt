@@ -1,11 +1,11 @@
 // The lines of the rows of two layers.
-use finder::row_at;
-use finder::row_ground;
-use geometer::area;
 use geometry::Kind;
-use printer::put_field;
-use printer::put_layer;
+use geometry_code::area;
+use printing_code::put_field;
+use printing_code::put_layer;
 use rows::Sharing;
+use rows_code::row_at;
+use rows_code::row_ground;
 use speller::put_word;
 ghost use mathlib.Core.Path.{_≡_};
 ghost use mathlib.Core.Bool.{true};
@@ -13,14 +13,14 @@ ghost use mathlib.Core.List.{_∷_};
 ghost use Prim.Native.Nat.{_≤_};
 ghost use lib.ListN.{length, take};
 ghost use Rattle.decimal.specs.Numerals.{decimal};
-ghost use Rattle.lists.specs.Stores.{Put};
+ghost use Rattle.lists.specs.inner.Stores.{Put};
 ghost use Rattle.plan.specs.Plan.{layersOf};
 ghost use Rattle.plan.specs.Frames.{Framed};
 ghost use Rattle.rows.specs.RowCall.{isRow};
 ghost use Rattle.rows.specs.Tables.{rowsIn};
-ghost use Rattle.rows.specs.TableRows.{TableRows};
+ghost use Rattle.rows.specs.inner.TableRows.{TableRows};
 ghost use Rattle.printing.specs.Lines.{fieldsEnd, rowFields};
-ghost use Rattle.printing.specs.Parts.{FitsAt};
+ghost use Rattle.printing.specs.inner.Parts.{FitsAt};
 ghost use Rattle.asking_code.specs.Parts.{ofTwo, linesOfTwo, pairFields};
 
 // The lines of the first n rows of a table of the layers at `lower` and `higher`; the place behind them.

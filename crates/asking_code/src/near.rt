@@ -7,21 +7,21 @@ use outcomes::Reply;
 use outcomes_code::put_refusal;
 use plan::MOST_CELLS;
 use plan::Shape;
-use planner::count_of;
+use plan_code::count_of;
 ghost use Prim.Native.Nat.{_≤_};
-ghost use Rattle.lists.specs.Stores.{Put};
+ghost use Rattle.lists.specs.inner.Stores.{Put};
 ghost use Rattle.plan.specs.Plan.{Sound};
-ghost use Rattle.printing.specs.Parts.{FitsAt};
+ghost use Rattle.printing.specs.inner.Parts.{FitsAt};
 ghost use Rattle.outcomes.specs.Outcomes.{Told};
-ghost use Rattle.outcomes.specs.Rooms.{Room};
+ghost use Rattle.outcomes.specs.inner.Rooms.{Room};
 ghost use Rattle.asking.specs.Lines.{nearLines};
-ghost use Rattle.asking.specs.Answers.{nearOutcome, nearestOf};
+ghost use Rattle.asking.specs.Answers.{nearOutcome, nearestSaid};
 ghost use Rattle.asking_code.specs.Parts.{Measured};
 
 // What lies nearest to a box in each layer.
 pub fn nearest(text: &[u8], around: Rect, out: &mut [u8], err: &mut [u8]) -> Reply
     requires { ⌜ Room (now out) (now err) ⌝ }
-    ensures { λ r. ⌜ Told (nearestOf (now (text .entry)) around) (now (out .entry)) (now (err .entry)) (now (out .exit)) (now (err .exit)) r ⌝ }
+    ensures { λ r. ⌜ Told (nearestSaid (now (text .entry)) around) (now (out .entry)) (now (err .entry)) (now (out .exit)) (now (err .exit)) r ⌝ }
 {
     let mut cells = [0i32; MOST_CELLS];
     let reading = read_text(text, &mut cells);
@@ -38,7 +38,7 @@ fn tell_nearest(shape: Shape, cells: &[i32], around: Rect, out: &mut [u8], err: 
     requires { ⌜ Room (now out) (now err) × Sound shape (now cells) ⌝ }
     ensures { λ r. ⌜ Told (nearOutcome shape (now (cells .entry)) around) (now (out .entry)) (now (err .entry)) (now (out .exit)) (now (err .exit)) r ⌝ }
 {
-    let answer = seeker::nearest(shape, cells, around);
+    let answer = nearest_code::nearest(shape, cells, around);
     if answer.number != 0 {
         return put_refusal(out, err, answer.number);
     }

@@ -1,12 +1,12 @@
 // The plan of two layers of a plan.
 use plan::Shape;
-use planner::layer_cells;
-use seeker::sum_of;
+use plan_code::layer_cells;
+use plan_code::sum_of;
 ghost use mathlib.Core.Path.{_≡_};
 ghost use mathlib.Core.List.{_++_};
 ghost use Prim.Native.Nat.{_+_, _*_, _≤_, _<_};
 ghost use lib.ListN.{length, getD};
-ghost use Rattle.lists.specs.Stores.{Put};
+ghost use Rattle.lists.specs.inner.Stores.{Put};
 ghost use Rattle.asking.specs.Pairs.{twoShape};
 ghost use Rattle.asking_code.specs.Parts.{partOf, LayerThere};
 

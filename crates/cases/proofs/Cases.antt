@@ -25,7 +25,7 @@ use Rattle.timed.specs.Timed.{timedWalkOf, timedTableOf}
 use Rattle.paging.specs.Cursors.{sameCursor, resume}
 use Rattle.paging.specs.Calls.{current, freshCause, freshCall, freshCounter, pageCause, pageCall, pageTable, pageCounter, runCause}
 use Rattle.decimal.specs.Numerals.{size, decimal, numeral}
-use Rattle.decimal.specs.Bytes.{kindOf}
+use Rattle.decimal.specs.inner.Bytes.{kindOf}
 use Rattle.decimal.specs.Reading.{number}
 use Rattle.line.specs.Parsing.{line}
 use Rattle.text.specs.Parsing.{linesOf}
@@ -38,7 +38,7 @@ use Rattle.cases.specs.Cases.{Case, shape, alike, Holds, GroundHolds, dT
 use mathlib.Core.Bool.{true}
 use Rattle.geometry.specs.declared.Rect.{Rect}
 use Rattle.geometry.proofs.Integers.{zarith, add-law}
-use Rattle.ground.specs.Union.{covers, unionOf, grounds}
+use Rattle.ground.specs.Union.{squareIn, unionOf, grounds}
 use Rattle.ground.specs.Theorems.{corners}
 use Rattle.ground.proofs.Theorems.{union-holds, union-members}
 
@@ -71,7 +71,7 @@ report-with t u e g = rw (e, g)
 
 -- two rectangles that share no square
 abbrev Apart : Rect → Rect → Type 0
-Apart r s = (x y : ℤ) → covers x y r ≡ true → covers x y s ≡ true → ⊥
+Apart r s = (x y : ℤ) → squareIn x y r ≡ true → squareIn x y s ≡ true → ⊥
 
 two-apart : (r s : Rect) → inExtent r ≡ true → inExtent s ≡ true → Apart r s → unionOf (r ∷ s ∷ []) ≡ areaOf r + (areaOf s + 0)
 two-apart r s p q h = union-holds .apart (r ∷ s ∷ []) (_and_ p (_and_ q none-left)) (_then_ (_and_ h none-left) (_then_ none-left done))

@@ -12,9 +12,9 @@ use Rattle.walk.specs.Walk.{walkOf}
 use Rattle.paging.specs.Cursors.{sameCursor, resume}
 use Rattle.paging.specs.Calls.{current, pageCause, pageCall, pageTable, pageCounter}
 use Rattle.rounds.specs.Shares.{leftBehind}
-use Rattle.rounds.specs.Rounds.{fits, roundCause, probesOf, roundCall, roundCounters, roundTable}
+use Rattle.rounds.specs.Rounds.{fitsRound, roundCause, probesOf, roundCall, roundCounters, roundTable}
 use Rattle.cases.specs.Rounds.{ThreeServed}
 
 pub three-served : ThreeServed
-unfolding totalOf maxZ minZ common nonempty meets between held areaOf rectAt grownBy grown fitsAt planCause before sweepOrder orderCause hoursCause areaIn same-spot belongs tableOf walkOf same sameCursor resume current pageCause pageCall pageTable pageCounter leftBehind fits roundCause probesOf roundCall roundCounters roundTable
+unfolding totalOf maxZ minZ common nonempty meets between held areaOf rectAt grownBy grown fitsAt planCause before sweepOrder orderCause hoursCause areaIn same-spot belongs tableOf walkOf same sameCursor resume current pageCause pageCall pageTable pageCounter leftBehind fitsRound roundCause probesOf roundCall roundCounters roundTable
 three-served = record { answer = refl; counters = refl; table = refl }

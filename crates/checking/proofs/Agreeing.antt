@@ -18,12 +18,12 @@ use Rattle.line.specs.declared.Line.the-variants.{Plan, Layer, Rectangle}
 use Rattle.text.specs.declared.Tally.{Tally}
 use Rattle.text.specs.Spelling.{allInner}
 use Rattle.text.specs.Plans.{agrees}
-use Rattle.text.specs.Counting.{noneYet, upTo, layerRight, addLayer, addRect, addLines, tallyCause}
+use Rattle.text.specs.inner.Counting.{noneYet, upTo, layerRight, addLayer, addRect, addLines, tallyCause}
 use Rattle.text.proofs.Counting.{layer-added, rect-added}
 use Rattle.text.proofs.Verdict.{verdict}
 use Rattle.plan.proofs.Plan.{unless-zero}
 use Rattle.checking.specs.declared.Counts.{Counts}
-use Rattle.checking.specs.Faults.{Note, unlessNote, within, sizeOf, noCounts, missing, layerFaults, inReach, sideFaults, rectFaults, countLine, layersIn, faultsFrom, planFaults, faultsOf}
+use Rattle.checking.specs.Faults.{Note, unlessNote, isFromTo, sizeOf, noCounts, missing, layerFaults, inReach, sideFaults, rectFaults, countedWith, layerLines, faultsFrom, planFaults, faultsOf}
 
 -- ---- nothing is told
 none-both : (xs ys : List Note) → xs ++ ys ≡ [] → (xs ≡ []) × (ys ≡ [])
@@ -39,12 +39,12 @@ pub size-is : (z : ℤ) → leZ (pos 0) z ≡ true → sizeOf z ≡ natAbs z
 unfolding sizeOf
 size-is z h = rw h
 
-pub within-both : (low high z : ℤ) → within low high z ≡ true → (leZ low z ≡ true) × (leZ z high ≡ true)
-unfolding within
+pub within-both : (low high z : ℤ) → isFromTo low high z ≡ true → (leZ low z ≡ true) × (leZ z high ≡ true)
+unfolding isFromTo
 within-both low high z h = both (leZ low z) (leZ z high) h
 
-up-within : (most z : ℤ) → within (pos 0) most z ≡ true → upTo most z ≡ true
-unfolding within upTo
+up-within : (most z : ℤ) → isFromTo (pos 0) most z ≡ true → upTo most z ≡ true
+unfolding isFromTo upTo
 up-within most z h = h
 
 -- ---- what both count
@@ -58,14 +58,14 @@ pub alike-none : Alike noCounts noneYet
 alike-none = record { over = refl; due = refl; good = refl; formed = refl }
 
 pub alike-layer : (number : ℕ) (c : Counts) (t : Tally) (n m : ℤ) → Alike c t → t .layers < 6 → missing c ++ layerFaults number n m ≡ []
-    → Alike (countLine number c (Layer n m)) (addLayer t n m) × (addLayer t n m .layers ≡ t .layers + 1)
+    → Alike (countedWith number c (Layer n m)) (addLayer t n m) × (addLayer t n m .layers ≡ t .layers + 1)
 unfolding layerRight
 alike-layer number c t n m a h e =
     let p = none-both (missing c) (layerFaults number n m) e in
-    let q = none-both (unlessNote (within (pos 0) (pos 512) n) number _) (unlessNote (within (pos 0) (pos 50000) m) number _) (p .1) in
+    let q = none-both (unlessNote (isFromTo (pos 0) (pos 512) n) number _) (unlessNote (isFromTo (pos 0) (pos 50000) m) number _) (p .1) in
     let d : c .due ≡ 0 = eqb-true (c .due) 0 (none-told _ _ _ (p .0)) in
-    let s : within (pos 0) (pos 512) n ≡ true = none-told _ _ _ (q .0) in
-    let w : within (pos 0) (pos 50000) m ≡ true = none-told _ _ _ (q .1) in
+    let s : isFromTo (pos 0) (pos 512) n ≡ true = none-told _ _ _ (q .0) in
+    let w : isFromTo (pos 0) (pos 50000) m ≡ true = none-told _ _ _ (q .1) in
     let r : layerRight t n m ≡ true
     = rw (eq-eqb (t .due) 0 (a .due ∙ d), lt-ltb (t .layers) 6 h, up-within (pos 512) n s, up-within (pos 50000) m w) in
     rw (sym (layer-added t n m r))
@@ -82,7 +82,7 @@ sides-right number r e =
     rw (x, y, z)
 
 pub alike-rect : (number : ℕ) (c : Counts) (t : Tally) (r : Rect) → Alike c t → rectFaults number c r ≡ []
-    → Alike (countLine number c (Rectangle r)) (addRect t r) × (addRect t r .layers ≡ t .layers)
+    → Alike (countedWith number c (Rectangle r)) (addRect t r) × (addRect t r .layers ≡ t .layers)
 alike-rect number c t r a e =
     let p = none-both (unlessNote (c .over || ltb 0 (c .due)) number _) (sideFaults number r) e in
     let o : (c .over || ltb 0 (c .due)) ≡ true = none-told _ _ _ (p .0) in
@@ -92,29 +92,29 @@ alike-rect number c t r a e =
     (record { over = ne-eqb (c .due) 0 (λ z. omega arith); due = ap (λ (i : ℕ). i - 1) (a .due); good = a .good; formed = a .formed }, refl)
 
 -- ---- all lines
-alike-all : (number : ℕ) (c : Counts) (t : Tally) (ls : List Line) → allInner ls ≡ true → t .layers + layersIn ls ≤ 6 → Alike c t → faultsFrom number c ls ≡ []
-    → (d : Counts) × Alike d (addLines t ls) × (missing d ≡ []) × (addLines t ls .layers ≡ t .layers + layersIn ls)
+alike-all : (number : ℕ) (c : Counts) (t : Tally) (ls : List Line) → allInner ls ≡ true → t .layers + layerLines ls ≤ 6 → Alike c t → faultsFrom number c ls ≡ []
+    → (d : Counts) × Alike d (addLines t ls) × (missing d ≡ []) × (addLines t ls .layers ≡ t .layers + layerLines ls)
 alike-all number c t [] i h a e = (c, a, e, omega arith)
 alike-all number c t (Plan j ∷ ls) i h a e = clash i refl
 alike-all number c t (Layer n m ∷ ls) i h a e =
     let p = none-both (missing c ++ layerFaults number n m) _ e in
     let q = alike-layer number c t n m a (omega arith) (p .0) in
-    let r = alike-all (suc number) (countLine number c (Layer n m)) (addLayer t n m) ls i (omega (arith, q .1)) (q .0) (p .1) in
+    let r = alike-all (suc number) (countedWith number c (Layer n m)) (addLayer t n m) ls i (omega (arith, q .1)) (q .0) (p .1) in
     (r .0, r .1, r .2, omega (arith, q .1, r .3))
 alike-all number c t (Rectangle r ∷ ls) i h a e =
     let p = none-both (rectFaults number c r) _ e in
     let q = alike-rect number c t r a (p .0) in
-    let u = alike-all (suc number) (countLine number c (Rectangle r)) (addRect t r) ls i (omega (arith, q .1)) (q .0) (p .1) in
+    let u = alike-all (suc number) (countedWith number c (Rectangle r)) (addRect t r) ls i (omega (arith, q .1)) (q .0) (p .1) in
     (u .0, u .1, u .2, omega (arith, q .1, u .3))
 
 -- nothing is told of lines that agree, and they do where nothing is
 pub none-agrees : (k : ℤ) (ls : List Line) → allInner ls ≡ true → faultsOf (Plan k ∷ ls) ≡ [] → agrees (Plan k ∷ ls) ≡ true
 unfolding tallyCause
 none-agrees k ls i e =
-    let p = none-both (planFaults k (layersIn ls)) (faultsFrom 2 noCounts ls) e in
-    let f = none-both (unlessNote (within (pos 2) (pos 6) k) 1 _) _ (p .0) in
+    let p = none-both (planFaults k (layerLines ls)) (faultsFrom 2 noCounts ls) e in
+    let f = none-both (unlessNote (isFromTo (pos 2) (pos 6) k) 1 _) _ (p .0) in
     let b = within-both (pos 2) (pos 6) k (none-told _ _ _ (f .0)) in
-    let y = eqb-true (sizeOf k) (layersIn ls) (none-told _ _ _ (f .1)) in
+    let y = eqb-true (sizeOf k) (layerLines ls) (none-told _ _ _ (f .1)) in
     let z : leZ (pos 0) k ≡ true = omega (zarith, b .0, one-side k) in
     let s = size-is k z in
     let h : sizeOf k ≤ 6 = omega (zarith, s, b .0, b .1, size-law k, one-side k) in

@@ -7,7 +7,7 @@ use lib.Dec.{eqb}
 use lib.ListN.{length, take, drop, length-append}
 use borrow.Author.Tests.{eq-eqb, ne-eqb, le-leb, lt-leb}
 use Rattle.lists.specs.Lists.{sum, listIn}
-use Rattle.lists.specs.Stores.{Put}
+use Rattle.lists.specs.inner.Stores.{Put}
 use Rattle.decimal.specs.Numerals.{decimal}
 use Rattle.decimal.proofs.Numerals.{length-decimal, size-most}
 use Rattle.plan.specs.declared.Shape.{Shape}
@@ -17,19 +17,19 @@ use Rattle.text.specs.declared.Reading.{Reading}
 use Rattle.text.specs.Parsing.{linesOf}
 use Rattle.text.specs.Reader.{readCause, textShape, readAnswer}
 use Rattle.printing.specs.Lines.{lineOf, refusedLine}
-use Rattle.printing.specs.Parts.{FitsAt}
+use Rattle.printing.specs.inner.Parts.{FitsAt}
 use Rattle.printing.proofs.Puts.{put-same}
 use Rattle.outcomes.specs.declared.Reply.{Reply}
 use Rattle.outcomes.specs.Texts.{ascii}
 use Rattle.outcomes.specs.Outcomes.{Told, errorLine, causeLines, causeLine, causeText, done, refusedWith, refused}
-use Rattle.outcomes.specs.Rooms.{Room, roomForAll, roomForWords}
+use Rattle.outcomes.specs.inner.Rooms.{Room, roomForAll, roomForWords}
 use Rattle.outcomes.proofs.Texts.{part-few}
 use Rattle.outcomes.proofs.Outcomes.{error-length, told-same, told-done, told-refused-with}
 use Rattle.checking.specs.declared.Spot.{Spot}
 use Rattle.checking.specs.Lines.{badLine}
 use Rattle.checking.specs.Places.{EndsAt, Spotted, PutWords}
 use Rattle.checking.specs.Reasons.{reasonOf}
-use Rattle.checking.specs.Words.{reasonText}
+use Rattle.checking.specs.inner.Words.{reasonText}
 use Rattle.checking.proofs.Words.{error-few}
 use Rattle.checking.specs.Check.{checkCause, planFound, lineError, badError, whyLines, faultErrors, checkOf}
 

@@ -12,12 +12,12 @@ use Rattle.printing.specs.Lines.{lineOf}
 use Rattle.outcomes.specs.Outcomes.{done, refusedWith}
 use Rattle.checking.specs.Lines.{wellFormed, badLine}
 use Rattle.checking.specs.Reasons.{digit, zeroLeads, runOn, worded, spaced, oneNumber, countReason, numberReason, wordedReason, fieldReason, placeReason, reasonOf}
-use Rattle.checking.specs.Faults.{within, sizeOf, surplus, inReach}
+use Rattle.checking.specs.Faults.{isFromTo, sizeOf, surplus, inReach}
 use Rattle.checking.specs.Check.{checkCause, planFound, lineError, badError, moreError, faultErrors, whyLines, checkOf}
 use Rattle.checking.specs.Choices.{Choices, Boundaries}
 
 pub choices : Choices
-unfolding nonempty between held rectAt fitsAt planCause size decimal number line linesOf shapeIn agrees readCause textShape lineOf done refusedWith wellFormed badLine digit zeroLeads runOn worded spaced oneNumber countReason numberReason wordedReason fieldReason placeReason reasonOf within sizeOf surplus inReach checkCause planFound lineError badError moreError faultErrors whyLines checkOf
+unfolding nonempty between held rectAt fitsAt planCause size decimal number line linesOf shapeIn agrees readCause textShape lineOf done refusedWith wellFormed badLine digit zeroLeads runOn worded spaced oneNumber countReason numberReason wordedReason fieldReason placeReason reasonOf isFromTo sizeOf surplus inReach checkCause planFound lineError badError moreError faultErrors whyLines checkOf
 choices =
     record {
       mark-return = refl;
@@ -42,7 +42,7 @@ choices =
     }
 
 pub boundaries : Boundaries
-unfolding between within sizeOf inReach
+unfolding between isFromTo sizeOf inReach
 boundaries =
     record {
       least = refl;

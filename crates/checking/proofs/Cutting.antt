@@ -14,7 +14,7 @@ use Rattle.line.specs.declared.Line.{Line}
 use Rattle.line.specs.Parsing.{line}
 use Rattle.line.proofs.Theorems.{lines-hold}
 use Rattle.text.specs.Theorems as Text
-use Rattle.checking.specs.Lines.{textLines, inPlace, readsInPlace, wellFormed, Numbered, badFrom}
+use Rattle.checking.specs.Lines.{textLines, inPlace, readsInPlace, wellFormed, NumberedLine, badFrom}
 use Rattle.checking.specs.Places.{firstLine, afterLine}
 use Rattle.checking.specs.Theorems.{joined, WellFormed, next}
 use Rattle.checking.specs.Theorems as Checking
@@ -27,7 +27,7 @@ abbrev pub still : (first : Bool) → List (List ℕ) → Bool
 still first [] = first
 still first (l ∷ ls) = false
 
-pub record Cutting (first : Bool) (n : ℕ) (t : List ℕ) (b : Numbered) : Type 0 where
+pub record Cutting (first : Bool) (n : ℕ) (t : List ℕ) (b : NumberedLine) : Type 0 where
   pub before : List (List ℕ)
   pub rest : List ℕ
   pub text : t ≡ joined before ++ rest

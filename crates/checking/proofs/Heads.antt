@@ -8,7 +8,7 @@ use native.Mathlib.Omega.{arith}
 use lib.IntN.{ℤ}
 use lib.ListN.{length, drop}
 use Rattle.lists.specs.Lists.{isSome, listIn}
-use Rattle.lists.specs.Stores.{Put}
+use Rattle.lists.specs.inner.Stores.{Put}
 use Rattle.lists.proofs.Tests.{clash}
 use Rattle.line.specs.declared.Line.{Line}
 use Rattle.line.specs.declared.Line.the-variants.{Plan}
@@ -18,14 +18,14 @@ use Rattle.plan.specs.Limits.{mostCells}
 use Rattle.text.specs.Spelling.{inner, headed}
 use Rattle.text.specs.Reader.{linesCause, readCause}
 use Rattle.text.proofs.Filling.{lines-none, lines-other}
-use Rattle.outcomes.specs.Rooms.{roomForWords}
+use Rattle.outcomes.specs.inner.Rooms.{roomForWords}
 use Rattle.text.specs.Parsing.{allLines, linesOf}
 use Rattle.text.proofs.Parsing.{first-then}
 use Rattle.checking.specs.declared.Pen.{Pen}
-use Rattle.checking.specs.Faults.{noCounts, layersIn, faultsFrom, planFaults}
+use Rattle.checking.specs.Faults.{noCounts, layerLines, faultsFrom, planFaults}
 use Rattle.checking.specs.Check.{moreError, faultErrors}
 use Rattle.checking.specs.Places.{PutWords}
-use Rattle.checking.specs.Notes.{PenIn, Noted, LinesFrom, Headed}
+use Rattle.checking.specs.inner.Notes.{PenIn, Noted, LinesFrom, Headed}
 use Rattle.checking.proofs.Notes.{noted-then, noted-all, more-few}
 
 -- the lines behind the PLAN line
@@ -55,7 +55,7 @@ pub pen-start : (err : List ℕ) → roomForWords ≤ length err → PenIn err (
 pen-start err h = record { long = h; few = omega arith; at = omega arith }
 
 -- all things are told, and then that there are more
-pub faults-put : (s : List ℕ) (k : ℤ) (i layers : ℕ) (err mid late last : List ℕ) (p q : Pen) (r : ℕ) → Headed s k i → layers ≡ layersIn (listIn (allLines (drop i s)))
+pub faults-put : (s : List ℕ) (k : ℤ) (i layers : ℕ) (err mid late last : List ℕ) (p q : Pen) (r : ℕ) → Headed s k i → layers ≡ layerLines (listIn (allLines (drop i s)))
     → Noted err (record { at = 0; told = 0 }) (planFaults k layers) mid p → Noted mid p (faultsFrom 2 noCounts (listIn (allLines (drop i s)))) late q
     → Put late (q .at) (moreError (q .told)) last r → PutWords err (faultErrors (listIn (linesOf s))) last r
 unfolding faultErrors
@@ -63,8 +63,8 @@ faults-put s k i layers err mid late last p q r h e a b d =
     let g = behind s k i h in
     let x : listIn (allLines (drop i s)) ≡ g .lines = ap listIn (g .reads) in
     let y : listIn (linesOf s) ≡ Plan k ∷ g .lines = ap listIn (g .whole) in
-    let w : layers ≡ layersIn (g .lines) = e ∙ ap layersIn x in
-    let c = noted-then err mid late (record { at = 0; told = 0 }) p q (planFaults k (layersIn (g .lines))) (faultsFrom 2 noCounts (g .lines)) (rw w at a) (rw x at b) in
+    let w : layers ≡ layerLines (g .lines) = e ∙ ap layerLines x in
+    let c = noted-then err mid late (record { at = 0; told = 0 }) p q (planFaults k (layerLines (g .lines))) (faultsFrom 2 noCounts (g .lines)) (rw w at a) (rw x at b) in
     let z = noted-all err late last q _ r c d in
     rw y (record { put = z; few = omega (arith, z .place, d .place, more-few (q .told), c .within .at, c .within .few) })
 

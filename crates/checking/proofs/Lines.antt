@@ -16,7 +16,7 @@ use Rattle.line.specs.declared.Line.{Line}
 use Rattle.line.specs.Parsing.{line}
 use Rattle.line.specs.Theorems.{Starts, plan, layer, rect}
 use Rattle.line.proofs.Theorems.{lines-hold}
-use Rattle.checking.specs.Lines.{onto, textLines}
+use Rattle.checking.specs.Lines.{inFront, textLines}
 use Rattle.checking.specs.Places.{firstLine, afterLine}
 
 -- a byte that ends no line
@@ -93,9 +93,9 @@ lines-first b [] = go (eqb b 10)
 lines-first b (c ∷ t) = go (eqb b 10) (lines-first c t)
   where
     go : (e : Bool) → textLines (c ∷ t) ≡ firstLine (c ∷ t) ∷ textLines (afterLine (c ∷ t))
-        → cond e ((b ∷ []) ∷ textLines (c ∷ t)) (onto b (textLines (c ∷ t))) ≡ cond e (b ∷ []) (b ∷ firstLine (c ∷ t)) ∷ textLines (cond e (c ∷ t) (afterLine (c ∷ t)))
+        → cond e ((b ∷ []) ∷ textLines (c ∷ t)) (inFront b (textLines (c ∷ t))) ≡ cond e (b ∷ []) (b ∷ firstLine (c ∷ t)) ∷ textLines (cond e (c ∷ t) (afterLine (c ∷ t)))
     go true h = refl
-    go false h = ap (onto b) h
+    go false h = ap (inFront b) h
 
 -- ---- a line read at the start of a text is its first line
 pub record Cut (t : List ℕ) (l : Line) (rest : List ℕ) : Type 0 where

@@ -8,18 +8,18 @@ use native.Mathlib.Omega.{arith}
 use lib.Dec.{leb}
 use lib.ListN.{length, take, length-append}
 use borrow.Author.Tests.{le-leb, lt-leb}
-use Rattle.lists.specs.Stores.{Put}
+use Rattle.lists.specs.inner.Stores.{Put}
 use Rattle.lists.proofs.Stores.{put-length}
 use Rattle.lists.proofs.Tests.{total}
-use Rattle.printing.specs.Parts.{FitsAt}
+use Rattle.printing.specs.inner.Parts.{FitsAt}
 use Rattle.printing.proofs.Puts.{put-same, put-both}
 use Rattle.outcomes.specs.Texts.{ascii}
 use Rattle.outcomes.specs.Outcomes.{errorLine}
 use Rattle.checking.specs.declared.Pen.{Pen}
 use Rattle.checking.specs.Faults.{Note, unlessNote}
 use Rattle.checking.specs.Check.{lineError, noteErrors, moreError}
-use Rattle.checking.specs.Words.{reasonText}
-use Rattle.checking.specs.Notes.{counted, PenIn, Noted}
+use Rattle.checking.specs.inner.Words.{reasonText}
+use Rattle.checking.specs.inner.Notes.{counted, PenIn, Noted}
 use Rattle.checking.proofs.Words.{error-few}
 use Rattle.checking.proofs.Taking.{errors-join, take-none, take-join, take-few, told-left, counted-both}
 

@@ -18,8 +18,8 @@ use Rattle.text.specs.Parsing.{allLines}
 use Rattle.text.proofs.Parsing.{first-then, first-none}
 use Rattle.checking.specs.declared.Counts.{Counts}
 use Rattle.checking.specs.declared.Pen.{Pen}
-use Rattle.checking.specs.Faults.{Note, noCounts, countLine, lineFaults, missing, faultsFrom}
-use Rattle.checking.specs.Notes.{PenIn, Noted, LinesFrom}
+use Rattle.checking.specs.Faults.{Note, noCounts, countedWith, lineFaults, missing, faultsFrom}
+use Rattle.checking.specs.inner.Notes.{PenIn, Noted, LinesFrom}
 use Rattle.checking.proofs.Notes.{noted-none, noted-then}
 
 -- there are lines
@@ -69,12 +69,12 @@ module _ (s : List ℕ) (from : ℕ) (first : List ℕ) (start : Pen) (buf : Lis
       rw g at (noted-then first buf last start pen r (n .told) (missing c) (n .noted) p)
 
   -- one line more
-  pub noting-more : (l : Line) (i : ℕ) (last : List ℕ) (r : Pen) (d : Counts) → Line-at s at l i → Noted buf pen (lineFaults number c l) last r → d ≡ countLine number c l
+  pub noting-more : (l : Line) (i : ℕ) (last : List ℕ) (r : Pen) (d : Counts) → Line-at s at l i → Noted buf pen (lineFaults number c l) last r → d ≡ countedWith number c l
       → Noting s from first start last i (number + 1) r d
   noting-more l i last r d f p e =
       let q = next-some (allLines (drop i s)) _ (n .lines) (sym (first-then (drop at s) (l, drop i s) (f .reads)) ∙ n .reads) in
       let w : l ∷ q .0 ≡ n .lines = Option·some-injective (l ∷ q .0) (n .lines) (q .2) in
-      let rest = faultsFrom (suc number) (countLine number c l) (q .0) in
+      let rest = faultsFrom (suc number) (countedWith number c l) (q .0) in
       record {
         lines = q .0;
         reads = q .1;

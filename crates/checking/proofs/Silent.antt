@@ -19,10 +19,10 @@ use Rattle.text.specs.declared.Tally.{Tally}
 use Rattle.text.specs.Spelling.{allInner, headed}
 use Rattle.plan.specs.Causes.{unless, _orElse_}
 use Rattle.text.specs.Plans.{agrees}
-use Rattle.text.specs.Counting.{noneYet, spoilt, pick, upTo, layerRight, withLayer, addLayer, withRect, addRect, addLines, layersRight, tallyCause}
+use Rattle.text.specs.inner.Counting.{noneYet, spoilt, pick, upTo, layerRight, withLayer, addLayer, withRect, addRect, addLines, layersRight, tallyCause}
 use Rattle.text.proofs.Verdict.{verdict}
 use Rattle.checking.specs.declared.Counts.{Counts}
-use Rattle.checking.specs.Faults.{Note, within, sizeOf, noCounts, missing, layerFaults, inReach, sideFaults, rectFaults, countLine, layersIn, faultsFrom, planFaults, faultsOf}
+use Rattle.checking.specs.Faults.{Note, isFromTo, sizeOf, noCounts, missing, layerFaults, inReach, sideFaults, rectFaults, countedWith, layerLines, faultsFrom, planFaults, faultsOf}
 use Rattle.checking.proofs.Agreeing.{Alike, size-is, alike-none, alike-layer, alike-rect, none-agrees}
 
 -- ---- a good tally was good before
@@ -50,14 +50,14 @@ good-first t (Rectangle r ∷ ls) i e = rect-good t r (good-first (addRect t r) 
 
 -- ---- a line that is added tells nothing
 layer-silent : (number : ℕ) (c : Counts) (t : Tally) (n m : ℤ) → Alike c t → layerRight t n m ≡ true → (missing c ++ layerFaults number n m ≡ []) × (t .layers < 6)
-unfolding layerRight within upTo
+unfolding layerRight isFromTo upTo
 layer-silent number c t n m a h =
     let h₁ = both (eqb (t .due) 0) (ltb (t .layers) 6 && (upTo (pos 512) n && upTo (pos 50000) m)) h in
     let h₂ = both (ltb (t .layers) 6) (upTo (pos 512) n && upTo (pos 50000) m) (h₁ .1) in
     let h₃ = both (upTo (pos 512) n) (upTo (pos 50000) m) (h₂ .1) in
     let d : c .due ≡ 0 = sym (a .due) ∙ eqb-true (t .due) 0 (h₁ .0) in
-    let x : within (pos 0) (pos 512) n ≡ true = h₃ .0 in
-    let y : within (pos 0) (pos 50000) m ≡ true = h₃ .1 in
+    let x : isFromTo (pos 0) (pos 512) n ≡ true = h₃ .0 in
+    let y : isFromTo (pos 0) (pos 50000) m ≡ true = h₃ .1 in
     (rw (eq-eqb (c .due) 0 d, x, y), ltb-true (t .layers) 6 (h₂ .0))
 
 sides-silent : (number : ℕ) (r : Rect) → inRange r ≡ true → sideFaults number r ≡ []
@@ -79,18 +79,18 @@ none-join xs ys e f = rw (e, f)
 
 -- ---- all lines
 silent-all : (number : ℕ) (c : Counts) (t : Tally) (ls : List Line) → allInner ls ≡ true → Alike c t → addLines t ls .good ≡ true → addLines t ls .due ≡ 0
-    → (faultsFrom number c ls ≡ []) × (addLines t ls .layers ≡ t .layers + layersIn ls)
+    → (faultsFrom number c ls ≡ []) × (addLines t ls .layers ≡ t .layers + layerLines ls)
 silent-all number c t [] i a g d = (rw (eq-eqb (c .due) 0 (sym (a .due) ∙ d)), omega arith)
 silent-all number c t (Plan k ∷ ls) i a g d = clash i refl
 silent-all number c t (Layer n m ∷ ls) i a g d =
     let s = layer-silent number c t n m a (layer-good t n m (good-first (addLayer t n m) ls i g) .0) in
     let q = alike-layer number c t n m a (s .1) (s .0) in
-    let r = silent-all (suc number) (countLine number c (Layer n m)) (addLayer t n m) ls i (q .0) g d in
+    let r = silent-all (suc number) (countedWith number c (Layer n m)) (addLayer t n m) ls i (q .0) g d in
     (none-join (missing c ++ layerFaults number n m) _ (s .0) (r .0), omega (arith, q .1, r .1))
 silent-all number c t (Rectangle x ∷ ls) i a g d =
     let s = rect-silent number c t x a (rect-good t x (good-first (addRect t x) ls i g) .0) in
     let q = alike-rect number c t x a s in
-    let r = silent-all (suc number) (countLine number c (Rectangle x)) (addRect t x) ls i (q .0) g d in
+    let r = silent-all (suc number) (countedWith number c (Rectangle x)) (addRect t x) ls i (q .0) g d in
     (none-join (rectFaults number c x) _ s (r .0), omega (arith, q .1, r .1))
 
 -- the tests of the first pass were passed
@@ -100,7 +100,7 @@ passed true false e = absurd (omega arith)
 passed false b e = absurd (omega arith)
 
 agrees-none : (k : ℤ) (ls : List Line) → allInner ls ≡ true → agrees (Plan k ∷ ls) ≡ true → faultsOf (Plan k ∷ ls) ≡ []
-unfolding tallyCause within
+unfolding tallyCause isFromTo
 agrees-none k ls i e =
     let u : Tally = addLines noneYet ls in
     let z : tallyCause k u ≡ 0 = verdict k ls i ∙ rw e in
@@ -111,8 +111,8 @@ agrees-none k ls i e =
     let s = silent-all 2 noCounts noneYet ls i alike-none (p .0) (eqb-true (u .due) 0 (q .0)) in
     let n : natAbs k ≡ u .layers = eqb-true (natAbs k) (u .layers) (m .1) in
     let y : leZ (pos 0) k ≡ true = omega (zarith, l .0, one-side k) in
-    let w : sizeOf k ≡ layersIn ls = omega (arith, size-is k y, n, s .1) in
-    none-join (planFaults k (layersIn ls)) _ (rw (l .0, m .0, eq-eqb (sizeOf k) (layersIn ls) w)) (s .0)
+    let w : sizeOf k ≡ layerLines ls = omega (arith, size-is k y, n, s .1) in
+    none-join (planFaults k (layerLines ls)) _ (rw (l .0, m .0, eq-eqb (sizeOf k) (layerLines ls) w)) (s .0)
 
 -- nothing is told exactly of lines that agree
 pub silent : (ls : List Line) → headed ls ≡ true → (faultsOf ls ≡ []) ↔ (agrees ls ≡ true)

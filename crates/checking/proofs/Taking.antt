@@ -8,7 +8,7 @@ use lib.ListN.{length, take}
 use Rattle.lists.proofs.Tests.{total}
 use Rattle.checking.specs.Faults.{Note}
 use Rattle.checking.specs.Check.{lineError, noteErrors}
-use Rattle.checking.specs.Notes.{counted}
+use Rattle.checking.specs.inner.Notes.{counted}
 
 -- ---- lists
 pub errors-join : (xs ys : List Note) → noteErrors (xs ++ ys) ≡ noteErrors xs ++ noteErrors ys

@@ -4,35 +4,35 @@ use mathlib.Core.List.{List, [], _∷_, _++_, append-assoc}
 use Prim.Native.Nat.{ℕ, _+_, _-_, _≤_}
 use native.Mathlib.Omega.{arith}
 use lib.ListN.{length, take, drop, length-append}
-use Rattle.lists.specs.Stores.{Put}
+use Rattle.lists.specs.inner.Stores.{Put}
 use Rattle.decimal.specs.Numerals.{decimal}
 use Rattle.decimal.proofs.Numerals.{length-decimal, size-most}
-use Rattle.printing.specs.Parts.{FitsAt}
-use Rattle.outcomes.specs.Texts.{ascii, partAt}
-use Rattle.outcomes.specs.Places.{EndsAt, StartsAt}
-use Rattle.outcomes.specs.Rooms.{roomForWords}
+use Rattle.printing.specs.inner.Parts.{FitsAt}
+use Rattle.outcomes.specs.Texts.{ascii, textPart}
+use Rattle.outcomes.specs.inner.Places.{EndsAt, StartsAt}
+use Rattle.outcomes.specs.inner.Rooms.{roomForWords}
 use Rattle.outcomes.proofs.Texts.{part-bytes, part-few}
 use Rattle.checking.specs.Check.{lineError}
-use Rattle.checking.specs.Words.{reasonLines, reasonText}
+use Rattle.checking.specs.inner.Words.{reasonLines, reasonText}
 
 -- ---- a line of a text by its number
 module _ (buf : List ℕ) (at n : ℕ) (text : List ℕ) (from end : ℕ) (s : StartsAt 10 n text from) (f : EndsAt 10 text from end) where
-  part-same : take (end - from) (drop from text) ≡ partAt 10 n text
+  part-same : take (end - from) (drop from text) ≡ textPart 10 n text
   part-same = part-bytes 10 text from end f ∙ s .part
 
-  pub part-room : FitsAt buf at (partAt 10 n text ++ 10 ∷ []) → FitsAt buf at (take (end - from) (drop from text) ++ 10 ∷ [])
+  pub part-room : FitsAt buf at (textPart 10 n text ++ 10 ∷ []) → FitsAt buf at (take (end - from) (drop from text) ++ 10 ∷ [])
   part-room h = rw part-same h
 
-  pub part-put : (last : List ℕ) (r : ℕ) → Put buf at (take (end - from) (drop from text) ++ 10 ∷ []) last r → Put buf at (partAt 10 n text ++ 10 ∷ []) last r
+  pub part-put : (last : List ℕ) (r : ℕ) → Put buf at (take (end - from) (drop from text) ++ 10 ∷ []) last r → Put buf at (textPart 10 n text ++ 10 ∷ []) last r
   part-put last r p = rw part-same at p
 
 -- ---- a reason
 module _ (buf : List ℕ) (at reason : ℕ) (lines : List ℕ) (e : lines ≡ reasonLines) where
-  pub reason-room : FitsAt buf at (reasonText reason ++ 10 ∷ []) → FitsAt buf at (partAt 10 reason lines ++ 10 ∷ [])
+  pub reason-room : FitsAt buf at (reasonText reason ++ 10 ∷ []) → FitsAt buf at (textPart 10 reason lines ++ 10 ∷ [])
   unfolding reasonText
   reason-room h = rw e h
 
-  pub reason-put : (last : List ℕ) (r : ℕ) → Put buf at (partAt 10 reason lines ++ 10 ∷ []) last r → Put buf at (reasonText reason ++ 10 ∷ []) last r
+  pub reason-put : (last : List ℕ) (r : ℕ) → Put buf at (textPart 10 reason lines ++ 10 ∷ []) last r → Put buf at (reasonText reason ++ 10 ∷ []) last r
   unfolding reasonText
   reason-put last r p = rw e at p
 

@@ -15,7 +15,7 @@ use Rattle.text.specs.Reader.{readCause, textShape}
 use Rattle.printing.specs.Lines.{lineOf}
 use Rattle.outcomes.specs.Texts.{ascii}
 use Rattle.outcomes.specs.Outcomes.{Outcome, errorLine, causeText, done, refusedWith}
-use Rattle.checking.specs.Lines.{Numbered, badLine}
+use Rattle.checking.specs.Lines.{NumberedLine, badLine}
 use Rattle.checking.specs.Reasons.{reasonOf}
 use Rattle.checking.specs.Faults.{Note, faultsOf}
 
@@ -32,7 +32,7 @@ unfoldable pub lineError : (number : ℕ) (words : List ℕ) → List ℕ
 lineError number words = errorLine (ascii "line " ++ (decimal number ++ (ascii ": " ++ words)))
 
 -- the first line that is not well formed
-unfoldable pub badError : Numbered → List ℕ
+unfoldable pub badError : NumberedLine → List ℕ
 badError l = lineError (l .number) (reasonOf (eqb (l .number) 1) (l .bytes))
 
 -- things that are wrong, a line each

@@ -24,8 +24,8 @@ unlessNote true number words = []
 unlessNote false number words = record { number = number; words = words } ∷ []
 
 -- z is from `low` to `high`
-unfoldable pub within : (low high z : ℤ) → Bool
-within low high z = leZ low z && leZ z high
+unfoldable pub isFromTo : (low high z : ℤ) → Bool
+isFromTo low high z = leZ low z && leZ z high
 
 -- a number, or 0 where it is below 0
 unfoldable pub sizeOf : ℤ → ℕ
@@ -41,21 +41,21 @@ abbrev pub countRect : Counts → Counts
 countRect c = record { line = c .line; due = c .due - 1; over = eqb (c .due) 0 }
 
 -- with a line more
-abbrev pub countLine : (number : ℕ) → Counts → Line → Counts
-countLine number c (Plan k) = c
-countLine number c (Layer n m) = record { line = number; due = sizeOf n; over = false }
-countLine number c (Rectangle r) = countRect c
+abbrev pub countedWith : (number : ℕ) → Counts → Line → Counts
+countedWith number c (Plan k) = c
+countedWith number c (Layer n m) = record { line = number; due = sizeOf n; over = false }
+countedWith number c (Rectangle r) = countRect c
 
 -- 1 of a LAYER line, 0 of another
-abbrev pub layerLine : Line → ℕ
-layerLine (Plan k) = 0
-layerLine (Layer n m) = 1
-layerLine (Rectangle r) = 0
+abbrev pub oneIfLayer : Line → ℕ
+oneIfLayer (Plan k) = 0
+oneIfLayer (Layer n m) = 1
+oneIfLayer (Rectangle r) = 0
 
 -- how many LAYER lines there are
-abbrev pub layersIn : List Line → ℕ
-layersIn [] = 0
-layersIn (l ∷ ls) = layerLine l + layersIn ls
+abbrev pub layerLines : List Line → ℕ
+layerLines [] = 0
+layerLines (l ∷ ls) = oneIfLayer l + layerLines ls
 
 -- ---- the things
 -- a LAYER line that has not all its RECT lines
@@ -65,8 +65,8 @@ missing c = unlessNote (eqb (c .due) 0) (c .line) (ascii "fewer RECT lines than 
 -- what is wrong with the numbers of a LAYER line. 01: "n_j rectangles, 0 to 512"; 02, Q-4: "a margin in millimetres, 0 to 50,000"
 abbrev pub layerFaults : (number : ℕ) → (n m : ℤ) → List Note
 layerFaults number n m =
-    unlessNote (within (pos 0) (pos mostSize) n) number (ascii "a layer of more than 512 rectangles, or fewer than 0")
-    ++ unlessNote (within (pos 0) (pos mostMargin) m) number (ascii "a margin above 50000 or below 0")
+    unlessNote (isFromTo (pos 0) (pos mostSize) n) number (ascii "a layer of more than 512 rectangles, or fewer than 0")
+    ++ unlessNote (isFromTo (pos 0) (pos mostMargin) m) number (ascii "a margin above 50000 or below 0")
 
 -- why a RECT line is too many
 unfoldable pub surplus : Counts → List ℕ
@@ -96,17 +96,17 @@ lineFaults number c (Rectangle r) = rectFaults number c r
 -- what is wrong with all lines behind the PLAN line, from the one with this number on
 abbrev pub faultsFrom : (number : ℕ) → Counts → List Line → List Note
 faultsFrom number c [] = missing c
-faultsFrom number c (l ∷ ls) = lineFaults number c l ++ faultsFrom (suc number) (countLine number c l) ls
+faultsFrom number c (l ∷ ls) = lineFaults number c l ++ faultsFrom (suc number) (countedWith number c l) ls
 
 -- what is wrong with a PLAN line that says k, before so many LAYER lines. 01: "k layers, 2 to 6"
 abbrev pub planFaults : ℤ → (layers : ℕ) → List Note
 planFaults k layers =
-    unlessNote (within (pos 2) (pos mostLayers) k) 1 (ascii "a plan of fewer than 2 layers, or more than 6")
+    unlessNote (isFromTo (pos 2) (pos mostLayers) k) 1 (ascii "a plan of fewer than 2 layers, or more than 6")
     ++ unlessNote (eqb (sizeOf k) layers) 1 (ascii "the PLAN line says another number of LAYER lines")
 
 -- what is wrong with all lines of a well formed text, the PLAN line first
 abbrev pub faultsOf : List Line → List Note
 faultsOf [] = []
-faultsOf (Plan k ∷ ls) = planFaults k (layersIn ls) ++ faultsFrom 2 noCounts ls
+faultsOf (Plan k ∷ ls) = planFaults k (layerLines ls) ++ faultsFrom 2 noCounts ls
 faultsOf (Layer n m ∷ ls) = []
 faultsOf (Rectangle r ∷ ls) = []

@@ -6,5 +6,4 @@ pub mod Places
 pub mod Theorems
 pub mod Cases
 pub mod Choices
-pub mod Notes
-pub mod Words
+pub mod inner

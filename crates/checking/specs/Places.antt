@@ -5,8 +5,8 @@ use mathlib.Core.Bool.{cond}
 use Prim.Native.Nat.{ℕ, suc, _-_, _≤_}
 use lib.Dec.{eqb}
 use lib.ListN.{length, take, drop}
-use Rattle.lists.specs.Stores.{Put}
-use Rattle.outcomes.specs.Rooms.{roomForWords}
+use Rattle.lists.specs.inner.Stores.{Put}
+use Rattle.outcomes.specs.inner.Rooms.{roomForWords}
 use Rattle.checking.specs.declared.Spot.{Spot}
 use Rattle.checking.specs.Lines.{badLine}
 

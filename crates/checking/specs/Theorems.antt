@@ -22,7 +22,7 @@ use Rattle.text.specs.Reader.{readCause}
 use Rattle.text.specs.Theorems.{Formed, PlanText}
 use Rattle.printing.specs.Lines.{refusedLine}
 use Rattle.outcomes.specs.Texts.{ascii}
-use Rattle.checking.specs.Lines.{inPlace, Numbered, badLine}
+use Rattle.checking.specs.Lines.{inPlace, NumberedLine, badLine}
 use Rattle.checking.specs.Faults.{Note, faultsOf}
 use Rattle.checking.specs.Check.{checkCause, lineError, badError, noteErrors, moreError, checkOf}
 
@@ -39,7 +39,7 @@ pub data WellFormed : (first : Bool) → List (List ℕ) → Type 0 where
       → WellFormed first (l ∷ ls)
 
 -- the first line of a text that is not well formed
-pub record FirstBad (t : List ℕ) (l : Numbered) : Type 0 where
+pub record FirstBad (t : List ℕ) (l : NumberedLine) : Type 0 where
   -- the lines before it, which are well formed, and the bytes behind it
   pub before : List (List ℕ)
   pub behind : List ℕ

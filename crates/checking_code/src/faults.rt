@@ -17,11 +17,11 @@ ghost use Prim.Native.Nat.{_≤_};
 ghost use lib.ListN.{length, drop};
 ghost use Rattle.lists.specs.Lists.{isSome, listIn};
 ghost use Rattle.text.specs.Parsing.{allLines, linesOf};
-ghost use Rattle.outcomes.specs.Rooms.{roomForWords};
-ghost use Rattle.checking.specs.Faults.{noCounts, layerLine, layersIn, faultsFrom, planFaults};
+ghost use Rattle.outcomes.specs.inner.Rooms.{roomForWords};
+ghost use Rattle.checking.specs.Faults.{noCounts, oneIfLayer, layerLines, faultsFrom, planFaults};
 ghost use Rattle.checking.specs.Check.{faultErrors};
 ghost use Rattle.checking.specs.Places.{PutWords};
-ghost use Rattle.checking.specs.Notes.{PenIn, Noted, LinesFrom, Headed};
+ghost use Rattle.checking.specs.inner.Notes.{PenIn, Noted, LinesFrom, Headed};
 
 // The reasons where k is not from 2 to 6, and where there are not k LAYER lines.
 const FEW_LAYERS: u32 = 15;
@@ -30,7 +30,7 @@ const LAYERS: u32 = 16;
 
 // 1 of a LAYER line, 0 of another.
 fn layer_line(line: Line) -> usize
-    ensures { λ r. ⌜ r ≡ layerLine line ⌝ }
+    ensures { λ r. ⌜ r ≡ oneIfLayer line ⌝ }
 {
     match line {
         Line::Plan(_) => 0,
@@ -42,7 +42,7 @@ fn layer_line(line: Line) -> usize
 // How many LAYER lines there are from a place on.
 fn layers_from(text: &[u8], from: usize) -> usize
     requires { ⌜ LinesFrom (now text) from ⌝ }
-    ensures { λ r. ⌜ r ≡ layersIn (listIn (allLines (drop from (now (text .entry))))) ⌝ }
+    ensures { λ r. ⌜ r ≡ layerLines (listIn (allLines (drop from (now (text .entry))))) ⌝ }
 {
     let mut at = from;
     let mut count: usize = 0;

@@ -11,12 +11,12 @@ ghost use mathlib.Core.Path.{_≡_};
 ghost use mathlib.Core.Bool.{_||_};
 ghost use mathlib.Core.List.{_++_};
 ghost use lib.Dec.{ltb};
-ghost use Rattle.lists.specs.Stores.{Put};
-ghost use Rattle.checking.specs.Faults.{unlessNote, within, sizeOf, countRect, countLine};
+ghost use Rattle.lists.specs.inner.Stores.{Put};
+ghost use Rattle.checking.specs.Faults.{unlessNote, isFromTo, sizeOf, countRect, countedWith};
 ghost use Rattle.checking.specs.Faults.{missing, layerFaults, surplus, inReach, sideFaults, rectFaults, lineFaults};
 ghost use Rattle.checking.specs.Check.{moreError};
-ghost use Rattle.checking.specs.Words.{reasonText};
-ghost use Rattle.checking.specs.Notes.{PenIn, Noted};
+ghost use Rattle.checking.specs.inner.Words.{reasonText};
+ghost use Rattle.checking.specs.inner.Notes.{PenIn, Noted};
 
 // No more things are told.
 const MOST_NOTES: usize = 64;
@@ -74,7 +74,7 @@ pub fn tell(err: &mut [u8], pen: Pen, right: bool, number: usize, reason: u32) -
 
 // Whether z is from `low` to `high`.
 pub fn within(low: i32, high: i32, z: i32) -> bool
-    ensures { λ r. ⌜ r ≡ within low high z ⌝ }
+    ensures { λ r. ⌜ r ≡ isFromTo low high z ⌝ }
 {
     if low <= z {
         return z <= high;
@@ -94,7 +94,7 @@ pub fn size_of(z: i32) -> u32
 
 // What is counted with one line more.
 pub fn count_line(number: usize, c: Counts, line: Line) -> Counts
-    ensures { λ r. ⌜ r ≡ countLine number c line ⌝ }
+    ensures { λ r. ⌜ r ≡ countedWith number c line ⌝ }
 {
     match line {
         Line::Plan(_) => c,

@@ -9,7 +9,7 @@ ghost use Rattle.lists.specs.Lists.{isSome};
 ghost use Rattle.line.specs.Parsing.{line};
 ghost use Rattle.checking.specs.Reasons.{has, digit, digitNext, zeroLeads, leadingZero, runOn, longNumber, worded, spaced, digitsEnd, oneNumber};
 ghost use Rattle.checking.specs.Reasons.{countReason, numberReason, wordedReason, fieldReason, placeReason, reasonOf};
-ghost use Rattle.checking.specs.Words.{reasonText};
+ghost use Rattle.checking.specs.inner.Words.{reasonText};
 
 // The reasons, in the order of the table.
 const EMPTY: u32 = 0;

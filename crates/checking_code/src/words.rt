@@ -6,12 +6,12 @@ use speller::put_decimal;
 use speller::put_word;
 ghost use mathlib.Core.Path.{_≡_};
 ghost use mathlib.Core.List.{[], _∷_, _++_};
-ghost use Rattle.lists.specs.Stores.{Put};
+ghost use Rattle.lists.specs.inner.Stores.{Put};
 ghost use Rattle.decimal.specs.Numerals.{decimal};
-ghost use Rattle.printing.specs.Parts.{FitsAt};
-ghost use Rattle.outcomes.specs.Texts.{ascii, partAt};
+ghost use Rattle.printing.specs.inner.Parts.{FitsAt};
+ghost use Rattle.outcomes.specs.Texts.{ascii, textPart};
 ghost use Rattle.checking.specs.Check.{lineError};
-ghost use Rattle.checking.specs.Words.{reasonLines, reasonText};
+ghost use Rattle.checking.specs.inner.Words.{reasonLines, reasonText};
 
 // All reasons, a line each, from 0.
 fn reason_lines() -> [u8; 866]
@@ -55,8 +55,8 @@ fn put_reason(err: &mut [u8], at: usize, reason: u32) -> usize
 
 // A line of a text by its number, from 0; the place behind it.
 pub fn put_part(buf: &mut [u8], at: usize, text: &[u8], n: u32) -> usize
-    requires { ⌜ FitsAt (now buf) at (partAt 10 n (now text) ++ 10 ∷ []) ⌝ }
-    ensures { λ r. ⌜ Put (now (buf .entry)) at (partAt 10 n (now (text .entry)) ++ 10 ∷ []) (now (buf .exit)) r ⌝ }
+    requires { ⌜ FitsAt (now buf) at (textPart 10 n (now text) ++ 10 ∷ []) ⌝ }
+    ensures { λ r. ⌜ Put (now (buf .entry)) at (textPart 10 n (now (text .entry)) ++ 10 ∷ []) (now (buf .exit)) r ⌝ }
 {
     let from = part_from(text, n, b'\n');
     let end = end_of(text, from, b'\n');

@@ -2,15 +2,15 @@
 use mathlib.Core.Path.{refl}
 use Rattle.lists.specs.Lists.{same}
 use Rattle.decimal.specs.Reading.{number}
-use Rattle.outcomes.specs.Texts.{upTo, behindFirst, partAt}
+use Rattle.outcomes.specs.Texts.{upTo, behindFirst, textPart}
 use Rattle.outcomes.specs.Outcomes.{done, misused}
 use Rattle.commands.specs.Commands.{commandWords, limits, versionLine}
-use Rattle.commands.specs.Arguments.{countOf, isNumber, isTaken, numberOf, boxOf, placesFrom, numbersFrom, commandFrom, looked, limitOr, numbersIn, callOf, fits}
+use Rattle.commands.specs.Arguments.{argumentCount, isNumber, isTaken, argumentValue, boxOf, placesFrom, leadingNumbers, commandFrom, looked, limitOr, numbersIn, commandCall, takesAll}
 use Rattle.commands.specs.Outcomes.{reportOutcome, helpOutcome, commandOf}
 use Rattle.commands.specs.Answered.{Answered}
 
 pub answered : Answered
-unfolding numberOf boxOf placesFrom versionLine done misused reportOutcome helpOutcome commandOf upTo behindFirst partAt same number commandWords limits countOf isNumber isTaken numbersFrom commandFrom looked limitOr numbersIn callOf fits
+unfolding argumentValue boxOf placesFrom versionLine done misused reportOutcome helpOutcome commandOf upTo behindFirst textPart same number commandWords limits argumentCount isNumber isTaken leadingNumbers commandFrom looked limitOr numbersIn commandCall takesAll
 answered =
     record {
       report = λ t u. refl;

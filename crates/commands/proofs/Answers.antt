@@ -10,18 +10,18 @@ use Rattle.outcomes.specs.declared.Reply.{Reply}
 use Rattle.outcomes.specs.Outcomes.{Told, done, misused}
 use Rattle.geometry.specs.declared.Rect.{Rect}
 use Rattle.checking.specs.Check.{checkOf}
-use Rattle.asking.specs.Answers.{apartOf, nearestOf, pairsOf}
+use Rattle.asking.specs.Answers.{apartOf, nearestSaid, pairsOf}
 use Rattle.listing.specs.Classes.{classesSaid}
 use Rattle.listing.specs.Hours.{hoursSaid}
 use Rattle.listing.specs.Cover.{coverSaid}
 use Rattle.picture.specs.Pictures.{pictureSaid}
 use Rattle.commands.specs.declared.Call.{Call}
 use Rattle.commands.specs.Commands.{mostCommands, usage, versionLine}
-use Rattle.commands.specs.Arguments.{argument, boxOf, layerIn, placesFrom, givenIn, commandNumber, callOf, fits}
+use Rattle.commands.specs.Arguments.{argument, boxOf, layerIn, placesFrom, givenIn, commandNumber, commandCall, takesAll}
 use Rattle.commands.specs.Outcomes.{reportOutcome, helpOutcome, answers, wanted, commandOf}
 
 -- ---- the program
-module _ (args text second out err outAfter errAfter : List ℕ) (c : Call) (r : Reply) (v : Bool) (e : c ≡ callOf args) (f : v ≡ fits c) where
+module _ (args text second out err outAfter errAfter : List ℕ) (c : Call) (r : Reply) (v : Bool) (e : c ≡ commandCall args) (f : v ≡ takesAll c) where
   pub command-wanted : not v ≡ true → Told (misused (usage (c .command))) out err outAfter errAfter r → Told (commandOf args text second) out err outAfter errAfter r
   unfolding commandOf
   command-wanted h t = rw (← e, ← f, not-true v h) t
@@ -65,7 +65,7 @@ module _ (c : Call) (args text second out err outAfter errAfter : List ℕ) (r :
   pub says-pairs : c .command ≡ 2 → (layer : ℕ) → layer ≡ layerIn (c .numbers) args → Told (pairsOf text layer) out err outAfter errAfter r → Says
   says-pairs e layer f t = rw (e, ← f) t
 
-  pub says-nearest : c .command ≡ 3 → (box : Rect) → box ≡ boxOf args → Told (nearestOf text box) out err outAfter errAfter r → Says
+  pub says-nearest : c .command ≡ 3 → (box : Rect) → box ≡ boxOf args → Told (nearestSaid text box) out err outAfter errAfter r → Says
   says-nearest e box f t = rw (e, ← f) t
 
   pub says-apart : c .command ≡ 4 → Told (apartOf text (placesFrom args 1 (c .numbers))) out err outAfter errAfter r → Says

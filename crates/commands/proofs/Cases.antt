@@ -3,14 +3,14 @@ use mathlib.Core.Path.{refl}
 use Rattle.lists.specs.Lists.{same}
 use Rattle.decimal.specs.Reading.{number}
 use Rattle.commands.specs.Commands.{commandWords, limits, usageLines, helpTexts, versionLine}
-use Rattle.commands.specs.Arguments.{countOf, isNumber, isTaken, numberOf, boxOf, placesFrom, numbersFrom, commandFrom, looked, limitOr, numbersIn, callOf, fits, textSource, secondSource}
-use Rattle.outcomes.specs.Texts.{upTo, behindFirst, partAt}
+use Rattle.commands.specs.Arguments.{argumentCount, isNumber, isTaken, argumentValue, boxOf, placesFrom, leadingNumbers, commandFrom, looked, limitOr, numbersIn, commandCall, takesAll, textSource, secondSource}
+use Rattle.outcomes.specs.Texts.{upTo, behindFirst, textPart}
 use Rattle.outcomes.specs.Outcomes.{causeLines, causeText, done, misused}
 use Rattle.commands.specs.Outcomes.{commandOf}
 use Rattle.commands.specs.Cases.{Cases}
 
 pub cases : Cases
-unfolding numberOf boxOf placesFrom usageLines helpTexts versionLine causeLines causeText done misused commandOf upTo behindFirst partAt same number commandWords limits countOf isNumber isTaken numbersFrom commandFrom looked limitOr numbersIn callOf fits textSource secondSource
+unfolding argumentValue boxOf placesFrom usageLines helpTexts versionLine causeLines causeText done misused commandOf upTo behindFirst textPart same number commandWords limits argumentCount isNumber isTaken leadingNumbers commandFrom looked limitOr numbersIn commandCall takesAll textSource secondSource
 cases =
     record {
       none = record { call = refl; fitting = refl; text-from = refl; second-from = refl };

@@ -8,7 +8,7 @@ use lib.ListN.{take, drop}
 use borrow.Author.Tests.{eq-eqb, ne-eqb, le-leb, lt-leb, not-true, not-false}
 use Rattle.lists.specs.Lists.{same}
 use Rattle.outcomes.specs.Texts.{ascii}
-use Rattle.commands.specs.Arguments.{argument, isNumber, isTaken, numbersFrom, weightAt, givenIn, looked}
+use Rattle.commands.specs.Arguments.{argument, isNumber, isTaken, leadingNumbers, weightAt, givenIn, looked}
 
 -- ---- words that are taken for numbers
 module _ (dash : ℕ) (word : List ℕ) (v : Bool) (e : v ≡ isNumber word) where
@@ -41,32 +41,32 @@ module _ (dash : ℕ) (args : List ℕ) (most : ℕ) where
   -- the first n are taken for numbers
   pub record Numbered (n : ℕ) : Type 0 where
     pub few : n ≤ most
-    pub rest : n + numbersFrom dash args (n + 1) (most - n) ≡ numbersFrom dash args 1 most
+    pub rest : n + leadingNumbers dash args (n + 1) (most - n) ≡ leadingNumbers dash args 1 most
 
   pub numbered-none : Numbered 0
-  numbered-none = let k : most - 0 ≡ most = omega arith in record { few = omega arith; rest = ap (λ (f : ℕ). 0 + numbersFrom dash args 1 f) k ∙ omega arith }
+  numbered-none = let k : most - 0 ≡ most = omega arith in record { few = omega arith; rest = ap (λ (f : ℕ). 0 + leadingNumbers dash args 1 f) k ∙ omega arith }
 
   module _ (n : ℕ) (c : Numbered n) where
     next-number : n < most → (v : Bool) → v ≡ isTaken dash (argument (n + 1) args)
-        → numbersFrom dash args (n + 1) (most - n) ≡ cond v (suc (numbersFrom dash args (n + 1 + 1) (most - (n + 1)))) 0
-    unfolding numbersFrom
+        → leadingNumbers dash args (n + 1) (most - n) ≡ cond v (suc (leadingNumbers dash args (n + 1 + 1) (most - (n + 1)))) 0
+    unfolding leadingNumbers
     next-number h v e =
         let k : most - n ≡ suc (most - (n + 1)) = omega arith in
         let j : suc (n + 1) ≡ n + 1 + 1 = omega arith in
-        ap (numbersFrom dash args (n + 1)) k ∙ (ap (λ (t : Bool). cond t (suc (numbersFrom dash args (suc (n + 1)) (most - (n + 1)))) 0) (sym e)
-        ∙ ap (λ (i : ℕ). cond v (suc (numbersFrom dash args i (most - (n + 1)))) 0) j)
+        ap (leadingNumbers dash args (n + 1)) k ∙ (ap (λ (t : Bool). cond t (suc (leadingNumbers dash args (suc (n + 1)) (most - (n + 1)))) 0) (sym e)
+        ∙ ap (λ (i : ℕ). cond v (suc (leadingNumbers dash args i (most - (n + 1)))) 0) j)
 
     pub numbered-more : n < most → (v : Bool) → v ≡ isTaken dash (argument (n + 1) args) → not v ≡ false → Numbered (n + 1)
     numbered-more h v e f = record { few = omega arith; rest = omega (arith, c .rest, next-number h true (sym (not-false v f) ∙ e)) }
 
-    pub numbered-stop : n < most → (v : Bool) → v ≡ isTaken dash (argument (n + 1) args) → not v ≡ true → n ≡ numbersFrom dash args 1 most
+    pub numbered-stop : n < most → (v : Bool) → v ≡ isTaken dash (argument (n + 1) args) → not v ≡ true → n ≡ leadingNumbers dash args 1 most
     numbered-stop h v e f = omega (arith, c .rest, next-number h false (sym (not-true v f) ∙ e))
 
-    pub numbered-all : most ≤ n → n ≡ numbersFrom dash args 1 most
-    unfolding numbersFrom
+    pub numbered-all : most ≤ n → n ≡ leadingNumbers dash args 1 most
+    unfolding leadingNumbers
     numbered-all h =
         let k : most - n ≡ 0 = omega arith in
-        let e : numbersFrom dash args (n + 1) (most - n) ≡ 0 = ap (numbersFrom dash args (n + 1)) k in
+        let e : leadingNumbers dash args (n + 1) (most - n) ≡ 0 = ap (leadingNumbers dash args (n + 1)) k in
         omega (arith, c .rest, e)
 
 pub looked-none : (count : ℕ) → count ≡ 0 → looked count ≡ 0

@@ -15,8 +15,8 @@ use Rattle.lists.proofs.Tests.{clash}
 use Rattle.decimal.specs.declared.Number.{Number}
 use Rattle.decimal.specs.declared.Number.the-variants.{Value, Bad}
 use Rattle.decimal.specs.Reading.{Reading, number}
-use Rattle.decimal.specs.Places.{placed, numberFrom}
-use Rattle.commands.specs.Arguments.{boxOf, argument, whole, isNumber, valueIn, numberOf, naturalOf, fromOne, layerIn}
+use Rattle.decimal.specs.inner.Places.{placed, numberFrom}
+use Rattle.commands.specs.Arguments.{boxOf, argument, whole, isNumber, valueIn, argumentValue, naturalOf, fromOne, layerIn}
 
 -- ---- numbers
 abbrev is-value : Number → Bool
@@ -59,16 +59,16 @@ reading-value : (n : ℕ) (r : Reading ℤ) (z : ℤ) (place : ℕ) → Value z 
 reading-value n none z place e = clash refl (ap is-value e)
 reading-value n (some (y, t)) z place e = ap (value-in z) e
 
-pub number-value : (word : List ℕ) (r : Number) (z : ℤ) (place : ℕ) → r ≡ numberFrom word 0 → r ≡ Value z place → z ≡ numberOf word
-unfolding numberFrom numberOf
+pub number-value : (word : List ℕ) (r : Number) (z : ℤ) (place : ℕ) → r ≡ numberFrom word 0 → r ≡ Value z place → z ≡ argumentValue word
+unfolding numberFrom argumentValue
 number-value word r z place e f = reading-value (length word) (number word) z place (sym f ∙ e)
 
 reading-zero : (n : ℕ) (r : Reading ℤ) → Bad ≡ placed n r → valueIn r ≡ pos 0
 reading-zero n none e = refl
 reading-zero n (some p) e = clash refl (ap is-value (sym e))
 
-pub number-zero : (word : List ℕ) (r : Number) → r ≡ numberFrom word 0 → r ≡ Bad → pos 0 ≡ numberOf word
-unfolding numberFrom numberOf
+pub number-zero : (word : List ℕ) (r : Number) → r ≡ numberFrom word 0 → r ≡ Bad → pos 0 ≡ argumentValue word
+unfolding numberFrom argumentValue
 number-zero word r e f = sym (reading-zero (length word) (number word) (sym f ∙ e))
 
 pub natural-below : (z : ℤ) → ltZ z (pos 0) ≡ true → 4294967295 ≡ naturalOf z
@@ -82,7 +82,7 @@ natural-same (negsuc n) h = clash refl h
 pub layer-none : (numbers : ℕ) (args : List ℕ) → numbers ≡ 0 → layerIn numbers args ≡ 0
 layer-none numbers args h = rw (eq-eqb numbers 0 h) refl
 
-module _ (numbers : ℕ) (args : List ℕ) (n : ℕ) (h : numbers ≡ 0 → ⊥) (e : n ≡ naturalOf (numberOf (argument 1 args))) where
+module _ (numbers : ℕ) (args : List ℕ) (n : ℕ) (h : numbers ≡ 0 → ⊥) (e : n ≡ naturalOf (argumentValue (argument 1 args))) where
   layer-there : fromOne n ≡ layerIn numbers args
   layer-there = ap fromOne e ∙ sym (rw (ne-eqb numbers 0 h) refl)
 
@@ -92,7 +92,7 @@ module _ (numbers : ℕ) (args : List ℕ) (n : ℕ) (h : numbers ≡ 0 → ⊥)
   pub layer-given : (n ≡ 0 → ⊥) → n ≡ layerIn numbers args
   layer-given z = sym (rw (ne-eqb n 0 z) refl) ∙ layer-there
 
-pub box-is : (args : List ℕ) (left bottom right top : ℤ) → left ≡ numberOf (argument 1 args) → bottom ≡ numberOf (argument 2 args)
-    → right ≡ numberOf (argument 3 args) → top ≡ numberOf (argument 4 args) → record { left = left; bottom = bottom; right = right; top = top } ≡ boxOf args
+pub box-is : (args : List ℕ) (left bottom right top : ℤ) → left ≡ argumentValue (argument 1 args) → bottom ≡ argumentValue (argument 2 args)
+    → right ≡ argumentValue (argument 3 args) → top ≡ argumentValue (argument 4 args) → record { left = left; bottom = bottom; right = right; top = top } ≡ boxOf args
 unfolding boxOf
 box-is args left bottom right top e f g h = rw (e, f, g, h)

@@ -7,19 +7,19 @@ use native.Mathlib.Omega.{arith}
 use lib.Dec.{leb, ltb}
 use lib.ListN.{length, take}
 use borrow.Author.Tests.{lt-ltb}
-use Rattle.lists.specs.Stores.{Put}
+use Rattle.lists.specs.inner.Stores.{Put}
 use Rattle.plan.specs.Causes.{onCause}
 use Rattle.printing.specs.Lines.{refusedLine}
 use Rattle.printing.proofs.Puts.{put-same}
 use Rattle.reporting.specs.declared.Printout.{Printout}
 use Rattle.reporting.specs.Report.{reportCause, reportOf, tableReport}
-use Rattle.reporting.specs.Parts.{Printed}
+use Rattle.reporting.specs.inner.Parts.{Printed}
 use Rattle.reporting.proofs.Texts.{never-longer}
 use Rattle.text.specs.Reader.{textShape, textCells}
 use Rattle.outcomes.specs.declared.Reply.{Reply}
-use Rattle.outcomes.specs.Texts.{partAt}
+use Rattle.outcomes.specs.Texts.{textPart}
 use Rattle.outcomes.specs.Outcomes.{Told, errorLine, causeText, done, refused, misused}
-use Rattle.outcomes.specs.Rooms.{Room}
+use Rattle.outcomes.specs.inner.Rooms.{Room}
 use Rattle.outcomes.proofs.Texts.{part-few}
 use Rattle.outcomes.proofs.Outcomes.{told-done, told-misused, told-refused, told-same}
 use Rattle.asking.specs.Answers.{apartOf}
@@ -34,7 +34,7 @@ unfolding usageLines
 usage-few = omega arith
 
 pub told-wanted : (out err errAfter lines : List ℕ) (command n : ℕ) → Room out err → lines ≡ usageLines
-    → Put err 0 (errorLine (partAt 10 command lines)) errAfter n → Told (misused (usage command)) out err out errAfter (record { status = 2; out = 0; err = n })
+    → Put err 0 (errorLine (textPart 10 command lines)) errAfter n → Told (misused (usage command)) out err out errAfter (record { status = 2; out = 0; err = n })
 told-wanted out err errAfter lines command n r e p =
     told-misused out err (usage command) errAfter n (omega (arith, r .words, part-few 10 command usageLines, usage-few)) (rw e at p)
 
@@ -78,7 +78,7 @@ module _ (names command : ℕ) (out err : List ℕ) (v : Bool) (e : v ≡ (ltb 0
   unfolding helpOutcome
   help-unknown outAfter errAfter r h t = rw (← e, h) t
 
-  pub help-done : (outAfter texts : List ℕ) (n : ℕ) → v ≡ false → Room out err → texts ≡ helpTexts → Put out 0 (partAt 0 command texts) outAfter n
+  pub help-done : (outAfter texts : List ℕ) (n : ℕ) → v ≡ false → Room out err → texts ≡ helpTexts → Put out 0 (textPart 0 command texts) outAfter n
       → Told (helpOutcome names command) out err outAfter err (record { status = 0; out = n; err = 0 })
   unfolding helpOutcome
   help-done outAfter texts n h room f p =

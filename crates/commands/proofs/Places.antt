@@ -5,7 +5,7 @@ use Prim.Native.Nat.{ℕ, zero, suc, _+_, _-_, _≤_, _<_}
 use native.Mathlib.Omega.{arith}
 use lib.ListN.{length, take, set, length-set}
 use Rattle.lists.proofs.Parts.{fill-step, fill-done}
-use Rattle.commands.specs.Arguments.{argument, numberOf, naturalOf, placesFrom}
+use Rattle.commands.specs.Arguments.{argument, argumentValue, naturalOf, placesFrom}
 
 module _ (args : List ℕ) (n : ℕ) where
   -- the first i stand in their cells
@@ -20,7 +20,7 @@ module _ (args : List ℕ) (n : ℕ) where
       record { long = h; few = omega arith; rest = ap (placesFrom args 1) k }
 
   module _ (out : List ℕ) (i : ℕ) (p : Placed out i) where
-    pub placed-more : i < length out → (x : ℕ) → x ≡ naturalOf (numberOf (argument (i + 1) args)) → Placed (set out i x) (i + 1)
+    pub placed-more : i < length out → (x : ℕ) → x ≡ naturalOf (argumentValue (argument (i + 1) args)) → Placed (set out i x) (i + 1)
     unfolding placesFrom
     placed-more l x e =
         let h : i < n = omega (arith, p .long) in
@@ -28,7 +28,7 @@ module _ (args : List ℕ) (n : ℕ) where
         let j : suc (i + 1) ≡ i + 1 + 1 = omega arith in
         let rest = placesFrom args (i + 1 + 1) (n - (i + 1)) in
         let f : placesFrom args (i + 1) (n - i) ≡ x ∷ rest
-        = ap (placesFrom args (i + 1)) k ∙ (ap (λ (m : ℕ). naturalOf (numberOf (argument (i + 1) args)) ∷ placesFrom args m (n - (i + 1))) j
+        = ap (placesFrom args (i + 1)) k ∙ (ap (λ (m : ℕ). naturalOf (argumentValue (argument (i + 1) args)) ∷ placesFrom args m (n - (i + 1))) j
         ∙ ap (λ (y : ℕ). y ∷ rest) (sym e)) in
         record {
           long = length-set out i x ∙ p .long;
@@ -47,7 +47,7 @@ pub places-first : (args : List ℕ) (i n m : ℕ) → n ≤ m → take n (place
 unfolding placesFrom
 places-first args i zero m h = refl
 places-first args i (suc n) zero h = absurd (omega (arith, h))
-places-first args i (suc n) (suc m) h = ap (λ (l : List ℕ). naturalOf (numberOf (argument i args)) ∷ l) (places-first args (suc i) n m (omega (arith, h)))
+places-first args i (suc n) (suc m) h = ap (λ (l : List ℕ). naturalOf (argumentValue (argument i args)) ∷ l) (places-first args (suc i) n m (omega (arith, h)))
 
 places-long : (args : List ℕ) (i n : ℕ) → length (placesFrom args i n) ≡ n
 unfolding placesFrom

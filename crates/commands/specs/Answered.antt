@@ -9,7 +9,7 @@ use Rattle.reporting.specs.Report.{reportCause, reportOf}
 use Rattle.outcomes.specs.Texts.{ascii}
 use Rattle.outcomes.specs.Outcomes.{Outcome, done, refused}
 use Rattle.checking.specs.Check.{checkOf}
-use Rattle.asking.specs.Answers.{apartOf, nearestOf, pairsOf}
+use Rattle.asking.specs.Answers.{apartOf, nearestSaid, pairsOf}
 use Rattle.listing.specs.Plans.{onPlan}
 use Rattle.listing.specs.Classes.{planClasses}
 use Rattle.listing.specs.Hours.{planHours}
@@ -36,7 +36,7 @@ pub record Answered : Type 0 where
   pub pairs : Says "pairs\0" (λ t u. pairsOf t 0)
   pub pairs-layer : Says "pairs\03\0a\0" (λ t u. pairsOf t 3)
   -- left, bottom, right, top
-  pub nearest : Says "nearest\01\0-2\03\04\0" (λ t u. nearestOf t (record { left = pos 1; bottom = negsuc 1; right = pos 3; top = pos 4 }))
+  pub nearest : Says "nearest\01\0-2\03\04\0" (λ t u. nearestSaid t (record { left = pos 1; bottom = negsuc 1; right = pos 3; top = pos 4 }))
   -- the places, layer after layer
   pub apart : Says "apart\05\00\07\0a\0" (λ t u. apartOf t (5 ∷ 0 ∷ 7 ∷ []))
   pub classes : Says "classes\0a\0" (λ t u. onPlan planClasses t)

@@ -9,13 +9,13 @@ use lib.IntN.{pos, negsuc}
 use Rattle.outcomes.specs.Texts.{ascii, upTo}
 use Rattle.outcomes.specs.Outcomes.{causeText}
 use Rattle.commands.specs.Commands.{usage, helpText}
-use Rattle.commands.specs.Arguments.{boxOf, layerIn, placesFrom, givenIn, callOf, fits, textSource, secondSource}
+use Rattle.commands.specs.Arguments.{boxOf, layerIn, placesFrom, givenIn, commandCall, takesAll, textSource, secondSource}
 use Rattle.commands.specs.Outcomes.{commandOf}
 
 -- arguments, the command that they ask for, its numbers and names, whether they fit, and where its texts come from
 pub record Asks (arguments : String) (command numbers names : ℕ) (fit : Bool) (text second : ℕ) : Type 0 where
-  pub call : callOf (ascii arguments) ≡ record { command = command; numbers = numbers; names = names }
-  pub fitting : fits (callOf (ascii arguments)) ≡ fit
+  pub call : commandCall (ascii arguments) ≡ record { command = command; numbers = numbers; names = names }
+  pub fitting : takesAll (commandCall (ascii arguments)) ≡ fit
   pub text-from : textSource (ascii arguments) ≡ text
   pub second-from : secondSource (ascii arguments) ≡ second
 

@@ -2,7 +2,7 @@
 use mathlib.Core.List.{List, [], _∷_, _++_}
 use Prim.Native.Nat.{ℕ, _+_, _*_}
 use lib.ListN.{getD}
-use Rattle.outcomes.specs.Texts.{ascii, partAt}
+use Rattle.outcomes.specs.Texts.{ascii, textPart}
 
 -- how many there are
 abbrev pub mostCommands : ℕ
@@ -52,7 +52,7 @@ usageLines =
     ++ ascii "report, check, pairs, nearest, apart, classes, hours, cover, picture, help, version\n"
 
 abbrev pub usage : (command : ℕ) → List ℕ
-usage command = partAt 10 command usageLines
+usage command = textPart 10 command usageLines
 
 -- what `help` says of each, and behind them what it says of all; each ended by byte 0
 unfoldable pub helpTexts : List ℕ
@@ -101,7 +101,7 @@ helpTexts =
     ++ ascii "version                                 the version of the interface\n\0"
 
 abbrev pub helpText : (command : ℕ) → List ℕ
-helpText command = partAt 0 command helpTexts
+helpText command = textPart 0 command helpTexts
 
 -- what `version` says: the version of the interface that include/overlay.h has
 unfoldable pub versionLine : List ℕ

@@ -8,14 +8,14 @@ use Rattle.plan.specs.Causes.{onCause}
 use Rattle.reporting.specs.Report.{reportCause, reportOf}
 use Rattle.outcomes.specs.Outcomes.{Outcome, done, refused, misused}
 use Rattle.checking.specs.Check.{checkOf}
-use Rattle.asking.specs.Answers.{apartOf, nearestOf, pairsOf}
+use Rattle.asking.specs.Answers.{apartOf, nearestSaid, pairsOf}
 use Rattle.listing.specs.Classes.{classesSaid}
 use Rattle.listing.specs.Hours.{hoursSaid}
 use Rattle.listing.specs.Cover.{coverSaid}
 use Rattle.picture.specs.Pictures.{pictureSaid}
 use Rattle.commands.specs.declared.Call.{Call}
 use Rattle.commands.specs.Commands.{mostCommands, usage, helpText, versionLine}
-use Rattle.commands.specs.Arguments.{argument, boxOf, layerIn, placesFrom, givenIn, commandNumber, callOf, fits}
+use Rattle.commands.specs.Arguments.{argument, boxOf, layerIn, placesFrom, givenIn, commandNumber, commandCall, takesAll}
 
 -- `report`: what the report program prints for the text
 unfoldable pub reportOutcome : (text : List ℕ) → Outcome
@@ -31,7 +31,7 @@ answers call arguments text second =
     reportOutcome text
     ∷ checkOf text
     ∷ pairsOf text (layerIn (call .numbers) arguments)
-    ∷ nearestOf text (boxOf arguments)
+    ∷ nearestSaid text (boxOf arguments)
     ∷ apartOf text (placesFrom arguments 1 (call .numbers))
     ∷ classesSaid text
     ∷ hoursSaid text second
@@ -48,5 +48,5 @@ wanted call = misused (usage (call .command))
 -- what the program says: wrong arguments are told what is wanted
 unfoldable pub commandOf : (arguments text second : List ℕ) → Outcome
 commandOf arguments text second =
-    let call = callOf arguments in
-    cond (fits call) (getD (answers call arguments text second) (call .command) (wanted call)) (wanted call)
+    let call = commandCall arguments in
+    cond (takesAll call) (getD (answers call arguments text second) (call .command) (wanted call)) (wanted call)

@@ -24,7 +24,7 @@ use picture_code::picture;
 ghost use Prim.Native.Nat.{_≤_, _<_};
 ghost use lib.ListN.{getD};
 ghost use Rattle.outcomes.specs.Outcomes.{Told};
-ghost use Rattle.outcomes.specs.Rooms.{Room};
+ghost use Rattle.outcomes.specs.inner.Rooms.{Room};
 ghost use Rattle.asking_code.specs.Listing.{Lent};
 ghost use Rattle.commands.specs.Commands.{mostCommands};
 ghost use Rattle.commands.specs.Outcomes.{answers, wanted, commandOf};

@@ -12,13 +12,13 @@ use Rattle.plan.specs.Plan.{Layer, layersOf, sizesOf, layers, planCause, Typed,
 use Rattle.plan.proofs.Plan.{or-else-zero, unless-zero}
 use Rattle.rows.specs.declared.Ground.{Ground}
 use Rattle.rows.specs.declared.Sharing.the-variants.{Nothing, Shared}
-use Rattle.rows.specs.Grounds.{groundOf}
+use Rattle.rows.specs.inner.Grounds.{groundOf}
 use Rattle.rows.proofs.Answers.{ground-none, ground-some}
 use Rattle.crossings.specs.declared.ClassAnswer.{ClassAnswer}
 use Rattle.crossings.specs.declared.ClassAnswer.the-variants.{Refused, NoRow, Class}
 use Rattle.crossings.specs.Crossings.{classIn}
 use Rattle.crossings.specs.ClassCall.{segmented, unwidened, crossingCause, classCall}
-use Rattle.crossings.specs.Ends.{classTold}
+use Rattle.crossings.specs.inner.Ends.{classTold}
 
 -- ---- the cause
 module _ (s : Shape) (cells : List ℤ) where

@@ -17,8 +17,8 @@ use Rattle.geometry.specs.declared.Rect.{Rect}
 use Rattle.geometry.specs.Rectangles.{In, meets}
 use Rattle.geometry.proofs.Rectangles.{point-meets}
 use Rattle.join.specs.Join.{commonOf}
-use Rattle.crossings.specs.Crossings.{coversFirst, coversLast, crosses, horizontalOf, verticalOf, othersOf, bothCross, ifSo, numbersFrom, smallestOf, smallest, classOf}
-use Rattle.crossings.specs.Ends.{endIn}
+use Rattle.crossings.specs.Crossings.{coversFirst, coversLast, crosses, horizontalOf, verticalOf, othersOf, bothCross, ifSo, coveredFrom, smallestOf, smallest, classOf}
+use Rattle.crossings.specs.inner.Ends.{endIn}
 
 -- ---- numbers that rise, from m on
 pub record Rising (m : ℕ) (ns : List ℕ) : Type 0 where
@@ -49,7 +49,7 @@ first-smallest (n ∷ ns) r = go (r .rising)
     go (_then_ h hs) = smallest-of n h
 
 module _ (h v : Rect) where
-  pub numbers-rise : (j : ℕ) (rs : List Rect) → Rising (4 * j + 1) (numbersFrom h v j rs)
+  pub numbers-rise : (j : ℕ) (rs : List Rect) → Rising (4 * j + 1) (coveredFrom h v j rs)
   numbers-rise j [] = record { above = none-left; rising = done }
   numbers-rise j (r ∷ rs) =
       rising-more (coversFirst r h) (4 * j + 1) (omega arith)
@@ -61,12 +61,12 @@ module _ (h v : Rect) where
   abbrev pub BothMeet : Rect → Type 0
   BothMeet r = (meets h r ≡ true) × (meets v r ≡ true)
 
-  both-cross : (j : ℕ) {rs : List Rect} → All BothMeet rs → bothCross h v rs ≡ empty (numbersFrom h v j rs)
+  both-cross : (j : ℕ) {rs : List Rect} → All BothMeet rs → bothCross h v rs ≡ empty (coveredFrom h v j rs)
   unfolding crosses
   both-cross j none-left = refl
   both-cross j (_and_ {a = r} {l = rs} m ms) = rw (m .0, m .1) (go (coversFirst r h) (coversLast r h) (coversFirst r v) (coversLast r v) (both-cross (suc j) ms))
     where
-      go : (a b c d : Bool) → bothCross h v rs ≡ empty (numbersFrom h v (suc j) rs) → (((not a && not b) && (not c && not d)) && bothCross h v rs) ≡ empty (ifSo a (4 * j + 1) (ifSo b (4 * j + 2) (ifSo c (4 * j + 3) (ifSo d (4 * j + 4) (numbersFrom h v (suc j) rs)))))
+      go : (a b c d : Bool) → bothCross h v rs ≡ empty (coveredFrom h v (suc j) rs) → (((not a && not b) && (not c && not d)) && bothCross h v rs) ≡ empty (ifSo a (4 * j + 1) (ifSo b (4 * j + 2) (ifSo c (4 * j + 3) (ifSo d (4 * j + 4) (coveredFrom h v (suc j) rs)))))
       go true b c d i = refl
       go false true c d i = refl
       go false false true d i = refl
@@ -90,13 +90,13 @@ module _ (h v : Rect) where
   -- the first j rectangles cover no end
   pub record Uncovered (rs : List Rect) (class j : ℕ) : Type 0 where
     pub within : j ≤ length rs
-    pub same : getD (numbersFrom h v j (drop j rs)) 0 0 ≡ class
+    pub same : getD (coveredFrom h v j (drop j rs)) 0 0 ≡ class
 
   module _ (rs : List Rect) (class j : ℕ) (u : Uncovered rs class j) (l : j < length rs) (r : Rect) (is : r ≡ getD rs j (commonOf [])) where
-    next : cond (eqb (endIn r h v) 0) (getD (numbersFrom h v (suc j) (drop (suc j) rs)) 0 0) (4 * j + endIn r h v) ≡ class
+    next : cond (eqb (endIn r h v) 0) (getD (coveredFrom h v (suc j) (drop (suc j) rs)) 0 0) (4 * j + endIn r h v) ≡ class
     next =
-        sym (end-first r j (numbersFrom h v (suc j) (drop (suc j) rs)))
-        ∙ sym (ap (λ (qs : List Rect). getD (numbersFrom h v j qs) 0 0) (drop-cons rs j (commonOf []) l ∙ ap (λ (q : Rect). q ∷ drop (suc j) rs) (sym is)))
+        sym (end-first r j (coveredFrom h v (suc j) (drop (suc j) rs)))
+        ∙ sym (ap (λ (qs : List Rect). getD (coveredFrom h v j qs) 0 0) (drop-cons rs j (commonOf []) l ∙ ap (λ (q : Rect). q ∷ drop (suc j) rs) (sym is)))
         ∙ u .same
 
     pub uncovered-more : endIn r h v ≡ 0 → Uncovered rs class (j + 1)
@@ -107,7 +107,7 @@ module _ (h v : Rect) where
     uncovered-found (suc e) q n = rw (← q, ne-eqb (suc e) 0 (λ z. omega arith)) at next
 
   pub uncovered-all : (rs : List Rect) (class j : ℕ) → Uncovered rs class j → length rs ≤ j → 0 ≡ class
-  uncovered-all rs class j u l = sym (ap (λ (qs : List Rect). getD (numbersFrom h v j qs) 0 0) (drop-of-length-le rs l)) ∙ u .same
+  uncovered-all rs class j u l = sym (ap (λ (qs : List Rect). getD (coveredFrom h v j qs) 0 0) (drop-of-length-le rs l)) ∙ u .same
 
 -- ---- the class of rectangles with a common point
 pub record Shares (rs : List Rect) : Type 0 where
@@ -123,12 +123,12 @@ module _ (rs : List Rect) (s : Shares rs) where
       let q = all-getD (commonOf []) (s .inside) (length rs - 1) (omega (arith, s .three)) in
       all-map (λ r i. (point-meets (horizontalOf rs) r (s .x) (s .y) p i, point-meets (verticalOf rs) r (s .x) (s .y) q i)) (all-take (length rs - 2) (s .inside))
 
-  pub class-first : classOf rs ≡ getD (numbersFrom (horizontalOf rs) (verticalOf rs) 0 (othersOf rs)) 0 0
+  pub class-first : classOf rs ≡ getD (coveredFrom (horizontalOf rs) (verticalOf rs) 0 (othersOf rs)) 0 0
   unfolding classOf
   class-first =
       let h = horizontalOf rs in
       let v = verticalOf rs in
-      rw (both-cross h v 0 all-meet) (first-smallest (numbersFrom h v 0 (othersOf rs)) (numbers-rise h v 0 (othersOf rs)))
+      rw (both-cross h v 0 all-meet) (first-smallest (coveredFrom h v 0 (othersOf rs)) (numbers-rise h v 0 (othersOf rs)))
 
   pub others-long : length (othersOf rs) ≡ length rs - 2
   others-long = length-take-le (length rs - 2) rs (omega arith)

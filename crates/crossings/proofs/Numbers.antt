@@ -16,7 +16,7 @@ use Rattle.geometry.specs.declared.Rect.{Rect}
 use Rattle.geometry.specs.Rectangles.{In}
 use Rattle.geometry.proofs.Integers.{zarith}
 use Rattle.join.specs.Join.{commonOf}
-use Rattle.crossings.specs.Crossings.{covers, coversFirst, coversLast, horizontalOf, verticalOf, othersOf, ifSo, numbersFrom, classOf}
+use Rattle.crossings.specs.Crossings.{covers, coversFirst, coversLast, horizontalOf, verticalOf, othersOf, ifSo, coveredFrom, classOf}
 use Rattle.crossings.specs.Theorems.{ofLayer, Crosses, Covered, left, right, bottom, top, Numbered, numbered, IsClass}
 use Rattle.crossings.proofs.Classes.{Rising, numbers-rise, Shares, class-first, others-long}
 
@@ -62,7 +62,7 @@ module _ (h v : Rect) where
 
   -- what is left of the numbers of a rectangle and the later ones behind its first, its second and its third end
   abbrev after3 : ℕ → Rect → List Rect → List ℕ
-  after3 j r rs = ifSo (coversLast r v) (4 * j + 4) (numbersFrom h v (suc j) rs)
+  after3 j r rs = ifSo (coversLast r v) (4 * j + 4) (coveredFrom h v (suc j) rs)
 
   abbrev after2 : ℕ → Rect → List Rect → List ℕ
   after2 j r rs = ifSo (coversFirst r v) (4 * j + 3) (after3 j r rs)
@@ -70,26 +70,26 @@ module _ (h v : Rect) where
   abbrev after1 : ℕ → Rect → List Rect → List ℕ
   after1 j r rs = ifSo (coversLast r h) (4 * j + 2) (after2 j r rs)
 
-  past2 : (j : ℕ) (r : Rect) (rs : List Rect) {d : ℕ} → List·Memᴰ d (after2 j r rs) → List·Memᴰ d (numbersFrom h v j (r ∷ rs))
+  past2 : (j : ℕ) (r : Rect) (rs : List Rect) {d : ℕ} → List·Memᴰ d (after2 j r rs) → List·Memᴰ d (coveredFrom h v j (r ∷ rs))
   past2 j r rs m = there (coversFirst r h) (4 * j + 1) (after1 j r rs) (there (coversLast r h) (4 * j + 2) (after2 j r rs) m)
 
-  past3 : (j : ℕ) (r : Rect) (rs : List Rect) {d : ℕ} → List·Memᴰ d (after3 j r rs) → List·Memᴰ d (numbersFrom h v j (r ∷ rs))
+  past3 : (j : ℕ) (r : Rect) (rs : List Rect) {d : ℕ} → List·Memᴰ d (after3 j r rs) → List·Memᴰ d (coveredFrom h v j (r ∷ rs))
   past3 j r rs m = past2 j r rs (there (coversFirst r v) (4 * j + 3) (after3 j r rs) m)
 
-  reached-mem : (j : ℕ) (rs : List Rect) (p : ℕ) {d : ℕ} → p < length rs → Reached (getD rs p (commonOf [])) (4 * (j + p)) d → List·Memᴰ d (numbersFrom h v j rs)
+  reached-mem : (j : ℕ) (rs : List Rect) (p : ℕ) {d : ℕ} → p < length rs → Reached (getD rs p (commonOf [])) (4 * (j + p)) d → List·Memᴰ d (coveredFrom h v j rs)
   reached-mem j [] p l q = absurd (omega arith)
   reached-mem j (r ∷ rs) zero l (at-left e q) = here (coversFirst r h) (4 * j + 1) (after1 j r rs) e (omega arith)
   reached-mem j (r ∷ rs) zero l (at-right e q) = there (coversFirst r h) (4 * j + 1) (after1 j r rs) (here (coversLast r h) (4 * j + 2) (after2 j r rs) e (omega arith))
   reached-mem j (r ∷ rs) zero l (at-bottom e q) = past2 j r rs (here (coversFirst r v) (4 * j + 3) (after3 j r rs) e (omega arith))
-  reached-mem j (r ∷ rs) zero l (at-top e q) = past3 j r rs (here (coversLast r v) (4 * j + 4) (numbersFrom h v (suc j) rs) e (omega arith))
+  reached-mem j (r ∷ rs) zero l (at-top e q) = past3 j r rs (here (coversLast r v) (4 * j + 4) (coveredFrom h v (suc j) rs) e (omega arith))
   reached-mem j (r ∷ rs) (suc p) {d} l q =
       let e : 4 * (j + suc p) ≡ 4 * (suc j + p) = omega arith in
-      past3 j r rs (there (coversLast r v) (4 * j + 4) (numbersFrom h v (suc j) rs) (reached-mem (suc j) rs p (omega arith) (subst (λ (n : ℕ). Reached (getD rs p (commonOf [])) n d) e q)))
+      past3 j r rs (there (coversLast r v) (4 * j + 4) (coveredFrom h v (suc j) rs) (reached-mem (suc j) rs p (omega arith) (subst (λ (n : ℕ). Reached (getD rs p (commonOf [])) n d) e q)))
 
   abbrev Found : ℕ → List Rect → ℕ → Type 0
   Found j rs d = (p : ℕ) × (p < length rs) × Reached (getD rs p (commonOf [])) (4 * (j + p)) d
 
-  mem-reached : (j : ℕ) (rs : List Rect) (d : ℕ) → List·Memᴰ d (numbersFrom h v j rs) → Found j rs d
+  mem-reached : (j : ℕ) (rs : List Rect) (d : ℕ) → List·Memᴰ d (coveredFrom h v j rs) → Found j rs d
   mem-reached j [] d m = absurd (List·Memᴰ·not-nil m)
   mem-reached j (r ∷ rs) d m = one (which (coversFirst r h) m) (mem-reached (suc j) rs d)
     where
@@ -98,21 +98,21 @@ module _ (h v : Rect) where
           let e : 4 * (suc j + f .0) ≡ 4 * (j + suc (f .0)) = omega arith in
           (suc (f .0), omega (arith, f .1), subst (λ (n : ℕ). Reached (getD rs (f .0) (commonOf [])) n d) e (f .2))
 
-      four : ((coversLast r v ≡ true) × (d ≡ 4 * j + 4)) ⊎ List·Memᴰ d (numbersFrom h v (suc j) rs) → (List·Memᴰ d (numbersFrom h v (suc j) rs) → Found (suc j) rs d) → Found j (r ∷ rs) d
+      four : ((coversLast r v ≡ true) × (d ≡ 4 * j + 4)) ⊎ List·Memᴰ d (coveredFrom h v (suc j) rs) → (List·Memᴰ d (coveredFrom h v (suc j) rs) → Found (suc j) rs d) → Found j (r ∷ rs) d
       four (inl k) f = (0, omega arith, at-top (k .0) (omega (arith, k .1)))
       four (inr k) f = later (f k)
 
-      three : ((coversFirst r v ≡ true) × (d ≡ 4 * j + 3)) ⊎ List·Memᴰ d (after3 j r rs) → (List·Memᴰ d (numbersFrom h v (suc j) rs) → Found (suc j) rs d) → Found j (r ∷ rs) d
+      three : ((coversFirst r v ≡ true) × (d ≡ 4 * j + 3)) ⊎ List·Memᴰ d (after3 j r rs) → (List·Memᴰ d (coveredFrom h v (suc j) rs) → Found (suc j) rs d) → Found j (r ∷ rs) d
       three (inl k) f = (0, omega arith, at-bottom (k .0) (omega (arith, k .1)))
       three (inr k) f = four (which (coversLast r v) k) f
 
       two : ((coversLast r h ≡ true) × (d ≡ 4 * j + 2)) ⊎ List·Memᴰ d (after2 j r rs)
-          → (List·Memᴰ d (numbersFrom h v (suc j) rs) → Found (suc j) rs d) → Found j (r ∷ rs) d
+          → (List·Memᴰ d (coveredFrom h v (suc j) rs) → Found (suc j) rs d) → Found j (r ∷ rs) d
       two (inl k) f = (0, omega arith, at-right (k .0) (omega (arith, k .1)))
       two (inr k) f = three (which (coversFirst r v) k) f
 
       one : ((coversFirst r h ≡ true) × (d ≡ 4 * j + 1)) ⊎ List·Memᴰ d (after1 j r rs)
-          → (List·Memᴰ d (numbersFrom h v (suc j) rs) → Found (suc j) rs d) → Found j (r ∷ rs) d
+          → (List·Memᴰ d (coveredFrom h v (suc j) rs) → Found (suc j) rs d) → Found j (r ∷ rs) d
       one (inl k) f = (0, omega arith, at-left (k .0) (omega (arith, k .1)))
       one (inr k) f = two (which (coversLast r h) k) f
 
@@ -135,7 +135,7 @@ first-least {m} {d} (n ∷ ns) r k = (low (r .above), go (List·Memᴰ·cases-co
 -- ---- the class
 module _ (rs : List Rect) (s : Shares rs) where
   abbrev numbers : List ℕ
-  numbers = numbersFrom (horizontalOf rs) (verticalOf rs) 0 (othersOf rs)
+  numbers = coveredFrom (horizontalOf rs) (verticalOf rs) 0 (othersOf rs)
 
   across : ofLayer rs (length rs - 1) ≡ horizontalOf rs
   across = let e : length rs - 1 - 1 ≡ length rs - 2 = omega arith in ap (λ (n : ℕ). getD rs n (commonOf [])) e

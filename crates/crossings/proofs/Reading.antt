@@ -4,7 +4,6 @@ use mathlib.Core.List.{List, [], _∷_}
 use mathlib.Core.Bool.{Bool, true, false, _&&_}
 use Prim.Native.Nat.{ℕ, zero, suc, _+_, _-_, _*_, _≤_, _<_}
 use native.Mathlib.Omega.{arith}
-use native.Mathlib.Numerals.{add-one}
 use lib.IntN.{ℤ}
 use lib.ListN.{length, getD, take}
 use lib.Seq.{length-take-le, getD-take}
@@ -26,7 +25,7 @@ use Rattle.rows.specs.RowCall.{fits, isRow}
 use Rattle.rows.proofs.RowCall.{fits-at, fits-within, is-row, sizes-of}
 use Rattle.crossings.specs.Crossings.{covers}
 use Rattle.crossings.specs.ClassCall.{lies, layerLies, segmented}
-use Rattle.crossings.specs.Ends.{allLie}
+use Rattle.crossings.specs.inner.Ends.{allLie}
 use Rattle.crossings.proofs.Classes.{Shares}
 
 -- ---- tests, as the code makes them
@@ -37,14 +36,6 @@ pub read-same : {x y : ℤ} {t : Bool} → SFits w32 x → SFits w32 y → t ≡
 read-same f g e = e ∙ ap₂ sameZ (toZ-ofZ f) (toZ-ofZ g)
 
 -- ---- how many rectangles lie before a layer
-pub start-next : (ns : List ℕ) (i : ℕ) → i < length ns → sum (take i ns) + getD ns i 0 ≡ sum (take (i + 1) ns)
-start-next ns i h = rw add-one (go ns i h)
-  where
-    go : (ns : List ℕ) (i : ℕ) → i < length ns → sum (take i ns) + getD ns i 0 ≡ sum (take (suc i) ns)
-    go [] i h = absurd (omega arith)
-    go (n ∷ ns) zero h = omega arith
-    go (n ∷ ns) (suc i) h = omega (arith, go ns i (omega arith))
-
 pub start-small : (ns : List ℕ) (i : ℕ) → sum (take i ns) + getD ns i 0 ≤ sum ns
 start-small [] zero = omega arith
 start-small [] (suc i) = omega arith

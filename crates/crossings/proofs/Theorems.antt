@@ -31,7 +31,7 @@ use Rattle.rows.proofs.Theorems.{rows}
 use Rattle.crossings.specs.declared.ClassAnswer.the-variants.{Refused, NoRow, Class}
 use Rattle.crossings.specs.Crossings.{classOf, classIn}
 use Rattle.crossings.specs.ClassCall.{lies, segmented, unwidened, crossingCause, classCall}
-use Rattle.crossings.specs.Ends.{allLie}
+use Rattle.crossings.specs.inner.Ends.{allLie}
 use Rattle.crossings.specs.Theorems.{ofLayer, IsClass, Segments, ClassHolds, Crossings}
 use Rattle.crossings.proofs.Reading.{row-shares, rects-long}
 use Rattle.crossings.proofs.Answers.{cause-sound, cause-three}

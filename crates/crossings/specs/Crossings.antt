@@ -50,11 +50,11 @@ ifSo t n ns = cond t (n ∷ ns) ns
 
 -- 02: "for layer i, 4(i − 1) + 1 when its rectangle covers the left end, + 2 the right end, + 3 the bottom end, + 4 the top end": these numbers, where j
 -- layers come before those of the rectangles
-abbrev pub numbersFrom : (h v : Rect) (j : ℕ) → List Rect → List ℕ
-numbersFrom h v j [] = []
-numbersFrom h v j (r ∷ rs) =
+abbrev pub coveredFrom : (h v : Rect) (j : ℕ) → List Rect → List ℕ
+coveredFrom h v j [] = []
+coveredFrom h v j (r ∷ rs) =
     ifSo (coversFirst r h) (4 * j + 1) (ifSo (coversLast r h) (4 * j + 2)
-    (ifSo (coversFirst r v) (4 * j + 3) (ifSo (coversLast r v) (4 * j + 4) (numbersFrom h v (suc j) rs))))
+    (ifSo (coversFirst r v) (4 * j + 3) (ifSo (coversLast r v) (4 * j + 4) (coveredFrom h v (suc j) rs))))
 
 -- the smallest of n and the others
 abbrev pub smallestOf : ℕ → List ℕ → ℕ
@@ -68,7 +68,7 @@ smallest (n ∷ ns) = smallestOf n ns
 -- 02: "A row is class 0 where both segments cross every rectangle of layers 1 to k − 2. Otherwise its class is the smallest of these"
 unfoldable pub classOf : List Rect → ℕ
 classOf rs =
-    let h = horizontalOf rs in let v = verticalOf rs in cond (bothCross h v (othersOf rs)) 0 (smallest (numbersFrom h v 0 (othersOf rs)))
+    let h = horizontalOf rs in let v = verticalOf rs in cond (bothCross h v (othersOf rs)) 0 (smallest (coveredFrom h v 0 (othersOf rs)))
 
 -- the class of a row by its places
 abbrev pub classIn : List Layer → List ℕ → ℕ

@@ -1,4 +1,4 @@
 pub mod Crossings
 pub mod ClassCall
 pub mod Theorems
-pub mod Ends
+pub mod inner

@@ -1,5 +1,5 @@
 // Crossings: the class of a row whose last two rectangles are segments (02: pipes against ducts), and the checks 15 and 16. They are defined in specs/; the
-// code is in the crate `classifier`.
+// code is in the crate `crossings_code`.
 
 // What the class call answers.
 pub enum ClassAnswer {

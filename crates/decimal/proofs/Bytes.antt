@@ -9,7 +9,7 @@ use borrow.Author.Tests.{leb-true, eqb-true, le-leb, ne-eqb, lt-leb}
 use Rattle.lists.proofs.Tests.{never-true, both, and-true, same-test, total}
 use Rattle.decimal.specs.declared.Kind.{Kind}
 use Rattle.decimal.specs.declared.Kind.the-variants.{Minus, Zero, Digit, Tab, End, Other}
-use Rattle.decimal.specs.Bytes.{kindOf, isDigit}
+use Rattle.decimal.specs.inner.Bytes.{kindOf, isDigit}
 
 -- what a byte of this kind is
 abbrev pub Is : Kind → ℕ → Type 0

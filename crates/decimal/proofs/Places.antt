@@ -17,9 +17,9 @@ use Rattle.decimal.specs.declared.Digits.{Digits}
 use Rattle.decimal.specs.declared.Kind.{Kind}
 use Rattle.decimal.specs.declared.Kind.the-variants.{Minus, Zero, Digit, Tab, End, Other}
 use Rattle.decimal.specs.declared.Number.the-variants.{Value, Bad}
-use Rattle.decimal.specs.Bytes.{kindOf, isDigit}
+use Rattle.decimal.specs.inner.Bytes.{kindOf, isDigit}
 use Rattle.decimal.specs.Reading.{Reading, more, magnitude, number}
-use Rattle.decimal.specs.Places.{afterMinus, numberAt, isMinus, MoreFrom, placed, numberFrom, sign, zeroAt}
+use Rattle.decimal.specs.inner.Places.{afterMinus, numberAt, isMinus, MoreFrom, placed, numberFrom, sign, zeroAt}
 use Rattle.decimal.proofs.Powers.{powers}
 use Rattle.decimal.proofs.Bytes.{digit-is, kind-is}
 use Rattle.decimal.proofs.Reading.{stop, number-kind, magnitude-kind}

@@ -14,9 +14,9 @@ use Rattle.lists.proofs.Tests.{never-true, both}
 use Rattle.decimal.specs.declared.Kind.{Kind}
 use Rattle.decimal.specs.declared.Kind.the-variants.{Minus, Zero, Digit, Tab, End, Other}
 use Rattle.decimal.specs.Numerals.{digits, size, decimal, numeral, mostDigits, short}
-use Rattle.decimal.specs.Bytes.{kindOf, isDigit}
+use Rattle.decimal.specs.inner.Bytes.{kindOf, isDigit}
 use Rattle.decimal.specs.Reading.{Reading, more, magnitude, number}
-use Rattle.decimal.specs.Places.{afterMinus, numberAt}
+use Rattle.decimal.specs.inner.Places.{afterMinus, numberAt}
 use Rattle.decimal.proofs.Powers.{tenfold, powers}
 use Rattle.decimal.proofs.Bytes.{Is, kind-is, kind-digit, digit-kind, other}
 use Rattle.decimal.proofs.Numerals.{Sized, sized, sized-few, front-low, front-high, front-sized, digits-decimal}

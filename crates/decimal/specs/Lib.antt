@@ -1,5 +1,4 @@
 pub mod Numerals
-pub mod Bytes
 pub mod Reading
-pub mod Places
 pub mod Theorems
+pub mod inner

@@ -36,7 +36,7 @@ use Rattle.paging.proofs.Calls.{Serves}
 use Rattle.paging.proofs.Serving.{serves-own, serves-none, accepted-first, accepted-counter}
 use Rattle.paging.proofs.Runs.{runs-hold}
 use Rattle.paging.proofs.Theorems.{due-left, fresh-accepted, fresh-passed}
-use Rattle.tally.proofs.Runs.{crossing-holds}
+use Rattle.crossing_report.proofs.Runs.{crossing-holds}
 use Rattle.demands.specs.Theorems.{reported, newestOf, counterAfter, Chain, OneRun, PagingHolds, TicketsHold, CallsHold, Demand3}
 use Rattle.demands.proofs.Courses.{Course, begun, advanced, courseAfter, course-next, course-newest-is, course-counter-is, begun-has, InRun, run-end, run-refused, run-accepted, in-run, Steady, Going, going-end, going-refused, going-accepted, steady-same, going-steady}
 use Rattle.demands.proofs.Lists.{going-holds, refused-holds}

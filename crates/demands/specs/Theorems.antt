@@ -29,8 +29,8 @@ use Rattle.timed.specs.Theorems.{WholeWeek, TimedHolds}
 use Rattle.paging.specs.declared.Ticket.{Ticket}
 use Rattle.paging.specs.Overlays.{Overlay, overlay, overlayOf}
 use Rattle.paging.specs.Calls.{freshCause, freshCall, freshCounter, pageCall, pageTable, pageCounter, runCause, runCall, runTable}
-use Rattle.paging.specs.Theorems.{Call, cause, answer, after, counted, rowCells, takes, Due, Hours, RunHolds}
-use Rattle.tally.specs.CrossingCall.{crossingRunCause, crossingCall, crossingTable}
+use Rattle.paging.specs.Theorems.{Call, cause, answer, tableAfter, counted, rowSize, takes, Due, Hours, RunHolds}
+use Rattle.crossing_report.specs.CrossingCall.{crossingRunCause, crossingCall, crossingTable}
 
 -- ---- lists of page calls
 -- 01: "A refused call may bring anything, and the ticket it gives back does not count." Those that count
@@ -71,7 +71,7 @@ module _ (windows : Option (List ℕ)) (s : Shape) (cells : List ℤ) where
 -- it reports." A refused call reports none
 abbrev pub handed : (k : ℕ) → List Call → List (List ℕ)
 handed k [] = []
-handed k (x ∷ xs) = rowsIn k (answer x .rows) (after x) ++ handed k xs
+handed k (x ∷ xs) = rowsIn k (answer x .rows) (tableAfter x) ++ handed k xs
 
 -- the probes that the calls report in all
 abbrev pub reported : List Call → ℕ
@@ -88,9 +88,9 @@ Last xs x = (ys : List Call) × (accepted xs ≡ ys ++ x ∷ [])
 -- ---- demand 3, of a list of calls on an overlay
 pub record PagingHolds {S : Type 0} (o : Overlay S) (xs : List Call) : Type 0 where
   -- "the rows handed out are the first rows of that table, in its order:
-  pub first : handed (rowCells o) xs ≡ take (length (handed (rowCells o) xs)) (o .table)
+  pub first : handed (rowSize o) xs ≡ take (length (handed (rowSize o) xs)) (o .table)
   -- exactly those that the walk yields in its first trials, as many as the calls reported in all,
-  pub yielded : handed (rowCells o) xs ≡ map (placesOf (o .sizes)) (rowsOf rowOf (take (reported xs) (o .walk)))
+  pub yielded : handed (rowSize o) xs ≡ map (placesOf (o .sizes)) (rowsOf rowOf (take (reported xs) (o .walk)))
   -- which is never more than the walk's length."
   pub within : reported xs ≤ length (o .walk)
   -- "No call reports more trials than its budget."
@@ -101,7 +101,7 @@ pub record PagingHolds {S : Type 0} (o : Overlay S) (xs : List Call) : Type 0 wh
   -- "If the accepted calls that each allow a trial and a row outnumber that length, the last accepted call tells Ended."
   pub bound : length (o .walk) < allowing o xs → (x : Call) × Last xs x × (answer x .stop ≡ Ended)
   -- 01: "The reported area sums add up to these rows' areas."
-  pub areas : sum (map (λ x. valueOf (answer x .area)) xs) ≡ sum (map (o .area) (handed (rowCells o) xs))
+  pub areas : sum (map (λ x. valueOf (answer x .area)) xs) ≡ sum (map (o .area) (handed (rowSize o) xs))
   -- 01: "The ticket that the last accepted call returns names the trial that comes next in the walk after as many as were reported in all, or says Ended
   -- where none comes." 02: it "carries the trials done so far"
   pub last : (x : Call) → Last xs x → Due (o .sizes) (answer x .ticket .cursor) (drop (reported xs) (o .walk)) × (answer x .ticket .count ≡ reported xs)

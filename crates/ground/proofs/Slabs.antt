@@ -11,7 +11,7 @@ use Rattle.lists.specs.Lists.{All, _and_}
 use Rattle.lists.proofs.Lists.{all-map}
 use Rattle.geometry.specs.declared.Rect.{Rect}
 use Rattle.geometry.proofs.Integers.{zarith, add-law, sub-law, size-law, one-side, refl-le, →leZ-true, →leZ-false}
-use Rattle.ground.specs.Union.{within, covers, covered, one, over, squares}
+use Rattle.ground.specs.Union.{holdsUnit, squareIn, covered, one, over, squares}
 use Rattle.ground.proofs.Sums.{span-to, over-same, over-join, over-flat}
 
 -- the sum over neighbouring lines of a, l of how far they lie apart times the value at the first of the two
@@ -114,17 +114,17 @@ high-same : (x y c : ℤ) → x ≤ℤ y → Clear x y c → leZ (x +ℤ pos 1) 
 high-same x y c h (behind k) = →leZ-false (x +ℤ pos 1) c (omega (zarith, add-law x (pos 1))) ∙ sym (→leZ-false (y +ℤ pos 1) c (omega (zarith, add-law y (pos 1))))
 high-same x y c h (beyond k) = →leZ-true (x +ℤ pos 1) c (omega (zarith, add-law x (pos 1))) ∙ sym (→leZ-true (y +ℤ pos 1) c (omega (zarith, add-law y (pos 1))))
 
-within-same : (x y low high : ℤ) → x ≤ℤ y → Clear x y low → Clear x y high → within low high x ≡ within low high y
-unfolding within
+within-same : (x y low high : ℤ) → x ≤ℤ y → Clear x y low → Clear x y high → holdsUnit low high x ≡ holdsUnit low high y
+unfolding holdsUnit
 within-same x y low high h k l = ap₂ _&&_ (low-same x y low h k) (high-same x y high h l)
 
 covered-x : (rs : List Rect) (x x' y : ℤ) → x ≤ℤ x' → All (Clear x x') (xsOf rs) → covered rs x y ≡ covered rs x' y
-unfolding covers
+unfolding squareIn
 covered-x [] x x' y h k = refl
 covered-x (r ∷ rs) x x' y h (_and_ k (_and_ l ks)) = cc (within-same x x' (r .left) (r .right) h k l, covered-x rs x x' y h ks)
 
 covered-y : (rs : List Rect) (x y y' : ℤ) → y ≤ℤ y' → All (Clear y y') (ysOf rs) → covered rs x y ≡ covered rs x y'
-unfolding covers
+unfolding squareIn
 covered-y [] x y y' h k = refl
 covered-y (r ∷ rs) x y y' h (_and_ k (_and_ l ks)) = cc (within-same y y' (r .bottom) (r .top) h k l, covered-y rs x y y' h ks)
 

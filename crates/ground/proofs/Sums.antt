@@ -9,7 +9,7 @@ use lib.Signed.{leZ, _≤ℤ_, _<ℤ_}
 use Rattle.geometry.specs.Rectangles.{maxZ}
 use Rattle.geometry.proofs.Integers.{up, zarith, add-law, sub-law, size-law, one-side, refl-le}
 use Rattle.geometry.proofs.Rectangles.{max-law}
-use Rattle.ground.specs.Union.{within, one, over, squares}
+use Rattle.ground.specs.Union.{holdsUnit, one, over, squares}
 
 plus-none : (z : ℤ) → z +ℤ pos 0 ≡ z
 plus-none z = omega (zarith, add-law z (pos 0))
@@ -106,8 +106,8 @@ module _ (a : ℤ) (w : ℕ) (b : ℤ) (h : ℕ) where
   squares-bound f = over-most _ a w (h * 1) (λ x. over-most _ b h 1 (λ y. one-small (f x y)))
 
 -- ---- an interval's units
-step : (low high a : ℤ) → one (within low high a) + up (high -ℤ maxZ low (a +ℤ pos 1)) ≡ up (high -ℤ maxZ low a)
-unfolding within
+step : (low high a : ℤ) → one (holdsUnit low high a) + up (high -ℤ maxZ low (a +ℤ pos 1)) ≡ up (high -ℤ maxZ low a)
+unfolding holdsUnit
 step low high a = go (leZ low a) (leZ (a +ℤ pos 1) high) refl refl
   where
     go : (s t : Bool) → leZ low a ≡ s → leZ (a +ℤ pos 1) high ≡ t → one (s && t) + up (high -ℤ maxZ low (a +ℤ pos 1)) ≡ up (high -ℤ maxZ low a)
@@ -116,12 +116,12 @@ step low high a = go (leZ low a) (leZ (a +ℤ pos 1) high) refl refl
     go false t e f = omega (zarith, add-law a (pos 1), max-law low a, max-law low (a +ℤ pos 1), sub-law high (maxZ low a), sub-law high (maxZ low (a +ℤ pos 1)), one-side (high -ℤ maxZ low a), one-side (high -ℤ maxZ low (a +ℤ pos 1)))
 
 -- how many units from a on lie between low and high
-pub interval-count : (low high a : ℤ) (w : ℕ) → high ≤ℤ (a +ℤ pos w) → over (λ x. one (within low high x)) a w ≡ up (high -ℤ maxZ low a)
+pub interval-count : (low high a : ℤ) (w : ℕ) → high ≤ℤ (a +ℤ pos w) → over (λ x. one (holdsUnit low high x)) a w ≡ up (high -ℤ maxZ low a)
 interval-count low high a zero h = omega (zarith, add-law a (pos 0), max-law low a, sub-law high (maxZ low a), one-side (high -ℤ maxZ low a))
 interval-count low high a (suc w) h =
-    ap (λ (t : ℕ). one (within low high a) + t) (interval-count low high (a +ℤ pos 1) w (omega (zarith, add-law a (pos (suc w)), add-law a (pos 1), add-law (a +ℤ pos 1) (pos w)))) ∙ step low high a
+    ap (λ (t : ℕ). one (holdsUnit low high a) + t) (interval-count low high (a +ℤ pos 1) w (omega (zarith, add-law a (pos (suc w)), add-law a (pos 1), add-law (a +ℤ pos 1) (pos w)))) ∙ step low high a
 
-pub interval-all : (low high a : ℤ) (w : ℕ) → a ≤ℤ low → low ≤ℤ high → high ≤ℤ (a +ℤ pos w) → over (λ x. one (within low high x)) a w ≡ natAbs (high -ℤ low)
+pub interval-all : (low high a : ℤ) (w : ℕ) → a ≤ℤ low → low ≤ℤ high → high ≤ℤ (a +ℤ pos w) → over (λ x. one (holdsUnit low high x)) a w ≡ natAbs (high -ℤ low)
 interval-all low high a w h k l =
     let e : maxZ low a ≡ low = omega (zarith, max-law low a) in
     interval-count low high a w l ∙ ap (λ (z : ℤ). up (high -ℤ z)) e ∙ omega (zarith, sub-law high low, one-side (high -ℤ low), size-law (high -ℤ low))

@@ -15,8 +15,8 @@ use Rattle.plan.specs.Plan.{Layer, layersOf}
 use Rattle.plan.specs.Frames.{Framed}
 use Rattle.join.specs.Join.{rects, commonOf, areaIn}
 use Rattle.join.specs.Table.{tableOf}
-use Rattle.ground.specs.Union.{within, covers, unionOf, grounds}
-use Rattle.ground.specs.Theorems.{Holds, UnionHolds, RowsUnion, TableUnions, corners}
+use Rattle.ground.specs.Union.{holdsUnit, squareIn, unionOf, grounds}
+use Rattle.ground.specs.Theorems.{HoldsSquare, UnionHolds, RowsUnion, TableUnions, corners}
 use Rattle.ground.proofs.Slabs.{Rises, top, up-to, union-by-cells}
 use Rattle.ground.proofs.Union.{covers-is, is-covers, covered-is, is-covered, same-squares, union-whole, union-same, union-most, union-apart, union-least, union-bound}
 use Rattle.ground.proofs.Tables.{rows-ranged}
@@ -43,7 +43,7 @@ among =
     (_and_ (List·Memᴰ·tail (List·Memᴰ·tail (List·Memᴰ·tail (List·Memᴰ·tail (List·Memᴰ·head refl))))) none-left)))
 
 example : unionOf two ≡ 7
-unfolding unionOf covers within
+unfolding unionOf squareIn holdsUnit
 example = union-by-cells two (negℤ extent) (negℤ extent) lines lines ascend ascend among among
 
 -- neither order nor repetition matters
@@ -72,10 +72,10 @@ unfolding areaIn
 row-areas ls rows = map-map areaOf (λ row. commonOf (rects ls row)) rows
 
 -- a covered square lies in the common ground of a row
-row-covers : (ls : List Layer) (rows : List (List ℕ)) (x y : ℤ) (r : Rect) → List·Memᴰ r (grounds ls rows) → covers x y r ≡ true → (row : List ℕ) × List·Memᴰ row rows × Holds x y (commonOf (rects ls row))
+row-covers : (ls : List Layer) (rows : List (List ℕ)) (x y : ℤ) (r : Rect) → List·Memᴰ r (grounds ls rows) → squareIn x y r ≡ true → (row : List ℕ) × List·Memᴰ row rows × HoldsSquare x y (commonOf (rects ls row))
 row-covers ls [] x y r m e = absurd (List·Memᴰ·not-nil m)
 row-covers ls (row ∷ rows) x y r m e =
-    ⊎-elim (λ q. (row, List·Memᴰ·head refl, covers-is x y _ (ap (covers x y) (sym q) ∙ e))) (λ k. let h = row-covers ls rows x y r k e in (h .0, List·Memᴰ·tail (h .1), h .2)) (List·Memᴰ·cases-cons m)
+    ⊎-elim (λ q. (row, List·Memᴰ·head refl, covers-is x y _ (ap (squareIn x y) (sym q) ∙ e))) (λ k. let h = row-covers ls rows x y r k e in (h .0, List·Memᴰ·tail (h .1), h .2)) (List·Memᴰ·cases-cons m)
 
 module _ (ns : List ℕ) (cells : List ℤ) (f : Framed ns cells) where
   abbrev ours : List Layer

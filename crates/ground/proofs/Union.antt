@@ -14,29 +14,29 @@ use Rattle.geometry.specs.declared.Rect.{Rect}
 use Rattle.geometry.specs.Rectangles.{extent, inExtent, areaOf}
 use Rattle.geometry.proofs.Integers.{zarith, add-law, neg-law, one-side}
 use Rattle.geometry.proofs.Rectangles.{held-is}
-use Rattle.ground.specs.Union.{within, covers, covered, one, over, squares, breadth, unionOf}
-use Rattle.ground.specs.Theorems.{Holds, AllHeld, Spans}
+use Rattle.ground.specs.Union.{holdsUnit, squareIn, covered, one, over, squares, breadth, unionOf}
+use Rattle.ground.specs.Theorems.{HoldsSquare, AllHeld, Spans}
 use Rattle.ground.proofs.Sums.{over-same, over-none, over-part, squares-same, squares-least, squares-join, squares-most, squares-bound, interval-all, product-count}
 
 -- ---- a square in a rectangle
-pub within-is : (low high z : ℤ) → within low high z ≡ true → (low ≤ℤ z) × ((z +ℤ pos 1) ≤ℤ high)
-unfolding within
+pub within-is : (low high z : ℤ) → holdsUnit low high z ≡ true → (low ≤ℤ z) × ((z +ℤ pos 1) ≤ℤ high)
+unfolding holdsUnit
 within-is low high z e = let h = both (leZ low z) (leZ (z +ℤ pos 1) high) e in omega zarith
 
-pub is-within : (low high z : ℤ) → low ≤ℤ z → (z +ℤ pos 1) ≤ℤ high → within low high z ≡ true
-unfolding within
+pub is-within : (low high z : ℤ) → low ≤ℤ z → (z +ℤ pos 1) ≤ℤ high → holdsUnit low high z ≡ true
+unfolding holdsUnit
 is-within low high z h k = and-true (leZ low z) (leZ (z +ℤ pos 1) high) (omega zarith) (omega zarith)
 
-pub covers-is : (x y : ℤ) (r : Rect) → covers x y r ≡ true → Holds x y r
-unfolding covers
+pub covers-is : (x y : ℤ) (r : Rect) → squareIn x y r ≡ true → HoldsSquare x y r
+unfolding squareIn
 covers-is x y r e =
-    let h = both (within (r .left) (r .right) x) (within (r .bottom) (r .top) y) e in
+    let h = both (holdsUnit (r .left) (r .right) x) (holdsUnit (r .bottom) (r .top) y) e in
     let p = within-is (r .left) (r .right) x (h .0) in
     let q = within-is (r .bottom) (r .top) y (h .1) in
     record { left = p .0; right = p .1; bottom = q .0; top = q .1 }
 
-pub is-covers : (x y : ℤ) (r : Rect) → Holds x y r → covers x y r ≡ true
-unfolding covers
+pub is-covers : (x y : ℤ) (r : Rect) → HoldsSquare x y r → squareIn x y r ≡ true
+unfolding squareIn
 is-covers x y r h = and-true _ _ (is-within (r .left) (r .right) x (h .left) (h .right)) (is-within (r .bottom) (r .top) y (h .bottom) (h .top))
 
 -- ---- in one of a list
@@ -51,15 +51,15 @@ or-second : (a b : Bool) → b ≡ true → (a || b) ≡ true
 or-second true b e = refl
 or-second false b e = e
 
-pub covered-is : (x y : ℤ) (rs : List Rect) → covered rs x y ≡ true → (r : Rect) × List·Memᴰ r rs × (covers x y r ≡ true)
+pub covered-is : (x y : ℤ) (rs : List Rect) → covered rs x y ≡ true → (r : Rect) × List·Memᴰ r rs × (squareIn x y r ≡ true)
 covered-is x y [] e = clash e refl
 covered-is x y (r ∷ rs) e =
-    ⊎-elim (λ c. (r, List·Memᴰ·head refl, c)) (λ c. let k = covered-is x y rs c in (k .0, List·Memᴰ·tail (k .1), k .2)) (either (covers x y r) (covered rs x y) e)
+    ⊎-elim (λ c. (r, List·Memᴰ·head refl, c)) (λ c. let k = covered-is x y rs c in (k .0, List·Memᴰ·tail (k .1), k .2)) (either (squareIn x y r) (covered rs x y) e)
 
-pub is-covered : (x y : ℤ) (rs : List Rect) (r : Rect) → List·Memᴰ r rs → covers x y r ≡ true → covered rs x y ≡ true
+pub is-covered : (x y : ℤ) (rs : List Rect) (r : Rect) → List·Memᴰ r rs → squareIn x y r ≡ true → covered rs x y ≡ true
 is-covered x y [] r m e = absurd (List·Memᴰ·not-nil m)
 is-covered x y (s ∷ rs) r m e =
-    ⊎-elim (λ q. or-first _ (covered rs x y) (ap (covers x y) (sym q) ∙ e)) (λ k. or-second (covers x y s) _ (is-covered x y rs r k e)) (List·Memᴰ·cases-cons m)
+    ⊎-elim (λ q. or-first _ (covered rs x y) (ap (squareIn x y) (sym q) ∙ e)) (λ k. or-second (squareIn x y s) _ (is-covered x y rs r k e)) (List·Memᴰ·cases-cons m)
 
 -- the same rectangles cover the same squares
 pub same-squares : (rs ss : List Rect) → ((r : Rect) → List·Memᴰ r rs → List·Memᴰ r ss) → ((r : Rect) → List·Memᴰ r ss → List·Memᴰ r rs) → (x y : ℤ) → covered rs x y ≡ covered ss x y
@@ -79,10 +79,10 @@ pub record Inside (a : ℤ) (w : ℕ) (b : ℤ) (h : ℕ) (r : Rect) : Type 0 wh
   pub top : r .top ≤ℤ (b +ℤ pos h)
 
 -- a rectangle has as many squares as its area says
-area-count : (a : ℤ) (w : ℕ) (b : ℤ) (h : ℕ) (r : Rect) → Inside a w b h r → squares (λ x y. covers x y r) a w b h ≡ areaOf r
-unfolding covers areaOf
+area-count : (a : ℤ) (w : ℕ) (b : ℤ) (h : ℕ) (r : Rect) → Inside a w b h r → squares (λ x y. squareIn x y r) a w b h ≡ areaOf r
+unfolding squareIn areaOf
 area-count a w b h r k =
-    product-count (within (r .left) (r .right)) (within (r .bottom) (r .top)) a w b h
+    product-count (holdsUnit (r .left) (r .right)) (holdsUnit (r .bottom) (r .top)) a w b h
     ∙ ap₂ _*_ (interval-all (r .left) (r .right) a w (k .left) (k .across) (k .right)) (interval-all (r .bottom) (r .top) b h (k .bottom) (k .upward) (k .top))
 
 module _ (a : ℤ) (w : ℕ) (b : ℤ) (h : ℕ) where
@@ -93,11 +93,11 @@ module _ (a : ℤ) (w : ℕ) (b : ℤ) (h : ℕ) where
   most-in : {rs : List Rect} → All (Inside a w b h) rs → squares (covered rs) a w b h ≤ sum (map areaOf rs)
   most-in none-left = subst (λ (n : ℕ). n ≤ 0) (sym (over-same _ _ a w (λ x. over-none b h) ∙ over-none a w)) (omega arith)
   most-in (_and_ {a = r} {l = rs} k ks) =
-      omega (arith, squares-most a w b h (λ x y. covers x y r) (covered rs) (covered (r ∷ rs)) (λ x y. join-most (covers x y r) (covered rs x y)), area-count a w b h r k, most-in ks)
+      omega (arith, squares-most a w b h (λ x y. squareIn x y r) (covered rs) (covered (r ∷ rs)) (λ x y. join-most (squareIn x y r) (covered rs x y)), area-count a w b h r k, most-in ks)
 
   -- no square of one is in the other
   abbrev Apart : Rect → Rect → Type 0
-  Apart r s = (x y : ℤ) → covers x y r ≡ true → covers x y s ≡ true → ⊥
+  Apart r s = (x y : ℤ) → squareIn x y r ≡ true → squareIn x y s ≡ true → ⊥
 
   join-apart : (s t : Bool) → (s ≡ true → t ≡ true → ⊥) → one (s || t) ≡ one s + one t
   join-apart true t f = rw (never-true t (f refl))
@@ -106,14 +106,14 @@ module _ (a : ℤ) (w : ℕ) (b : ℤ) (h : ℕ) where
   apart-in : {rs : List Rect} → All (Inside a w b h) rs → Pairwise Apart rs → squares (covered rs) a w b h ≡ sum (map areaOf rs)
   apart-in none-left done = over-same _ _ a w (λ x. over-none b h) ∙ over-none a w
   apart-in (_and_ {a = r} {l = rs} k ks) (_then_ p ps) =
-      omega (arith, squares-join a w b h (λ x y. covers x y r) (covered rs) (covered (r ∷ rs)) (λ x y. join-apart (covers x y r) (covered rs x y) (alone x y)), area-count a w b h r k, apart-in ks ps)
+      omega (arith, squares-join a w b h (λ x y. squareIn x y r) (covered rs) (covered (r ∷ rs)) (λ x y. join-apart (squareIn x y r) (covered rs x y) (alone x y)), area-count a w b h r k, apart-in ks ps)
     where
-      alone : (x y : ℤ) → covers x y r ≡ true → covered rs x y ≡ true → ⊥
+      alone : (x y : ℤ) → squareIn x y r ≡ true → covered rs x y ≡ true → ⊥
       alone x y e f = let k = covered-is x y rs f in all-at p (k .1) x y e (k .2)
 
   least-in : (rs : List Rect) (r : Rect) → List·Memᴰ r rs → Inside a w b h r → areaOf r ≤ squares (covered rs) a w b h
   least-in rs r m k =
-      omega (arith, area-count a w b h r k, squares-least a w b h (λ x y. covers x y r) (covered rs) (λ x y. ordered (covers x y r) (covered rs x y) (is-covered x y rs r m)))
+      omega (arith, area-count a w b h r k, squares-least a w b h (λ x y. squareIn x y r) (covered rs) (λ x y. ordered (squareIn x y r) (covered rs x y) (is-covered x y rs r m)))
     where
       ordered : (s t : Bool) → (s ≡ true → t ≡ true) → one s ≤ one t
       ordered true t f = rw (f refl) (omega arith)
@@ -193,7 +193,7 @@ pub union-most : (rs : List Rect) → All (λ r. inExtent r ≡ true) rs → uni
 unfolding unionOf
 union-most rs ks = most-in (negℤ extent) breadth (negℤ extent) breadth (all-extent ks)
 
-pub union-apart : (rs : List Rect) → All (λ r. inExtent r ≡ true) rs → Pairwise (λ r s. (x y : ℤ) → covers x y r ≡ true → covers x y s ≡ true → ⊥) rs → unionOf rs ≡ sum (map areaOf rs)
+pub union-apart : (rs : List Rect) → All (λ r. inExtent r ≡ true) rs → Pairwise (λ r s. (x y : ℤ) → squareIn x y r ≡ true → squareIn x y s ≡ true → ⊥) rs → unionOf rs ≡ sum (map areaOf rs)
 unfolding unionOf
 union-apart rs ks ps = apart-in (negℤ extent) breadth (negℤ extent) breadth (all-extent ks) ps
 

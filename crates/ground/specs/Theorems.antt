@@ -13,10 +13,10 @@ use Rattle.plan.specs.Plan.{Layer, layersOf}
 use Rattle.plan.specs.Frames.{Framed}
 use Rattle.join.specs.Join.{rects, commonOf, areaIn}
 use Rattle.join.specs.Table.{tableOf}
-use Rattle.ground.specs.Union.{covers, covered, squares, unionOf, grounds}
+use Rattle.ground.specs.Union.{squareIn, covered, squares, unionOf, grounds}
 
 -- the square from x to x + 1 and from y to y + 1 lies in the rectangle: each of its sides does
-pub record Holds (x y : ℤ) (r : Rect) : Type 0 where
+pub record HoldsSquare (x y : ℤ) (r : Rect) : Type 0 where
   pub left : r .left ≤ℤ x
   pub right : (x +ℤ pos 1) ≤ℤ r .right
   pub bottom : r .bottom ≤ℤ y
@@ -35,8 +35,8 @@ Spans m a w = (a ≤ℤ negℤ (pos m)) × (pos m ≤ℤ (a +ℤ pos w))
 
 pub record UnionHolds : Type 0 where
   -- a square is covered where it lies in one of the rectangles
-  pub square : (x y : ℤ) (r : Rect) → (covers x y r ≡ true) ↔ Holds x y r
-  pub some : (x y : ℤ) (rs : List Rect) → (covered rs x y ≡ true) ↔ ((r : Rect) × List·Memᴰ r rs × Holds x y r)
+  pub square : (x y : ℤ) (r : Rect) → (squareIn x y r ≡ true) ↔ HoldsSquare x y r
+  pub some : (x y : ℤ) (rs : List Rect) → (covered rs x y ≡ true) ↔ ((r : Rect) × List·Memᴰ r rs × HoldsSquare x y r)
   -- no square lies outside the range of the rectangles: any that is as wide or wider counts the same. 02, Q-13: "Every plan of the old range gives the same ..
   -- printed totals": of rectangles from −1,050,000 to 1,050,000 the union is the count over that range
   pub whole : (m : ℕ) → m ≤ 10050000 → (rs : List Rect) → AllHeld m rs → (a b : ℤ) (w h : ℕ) → Spans m a w → Spans m b h
@@ -45,7 +45,7 @@ pub record UnionHolds : Type 0 where
   pub settled : (rs ss : List Rect) → ((x y : ℤ) → covered rs x y ≡ covered ss x y) → unionOf rs ≡ unionOf ss
   -- at most the sum of the areas, and as much where no two share a square
   pub most : (rs : List Rect) → AllHeld 10050000 rs → unionOf rs ≤ sum (map areaOf rs)
-  pub apart : (rs : List Rect) → AllHeld 10050000 rs → Pairwise (λ r s. (x y : ℤ) → covers x y r ≡ true → covers x y s ≡ true → ⊥) rs
+  pub apart : (rs : List Rect) → AllHeld 10050000 rs → Pairwise (λ r s. (x y : ℤ) → squareIn x y r ≡ true → squareIn x y s ≡ true → ⊥) rs
       → unionOf rs ≡ sum (map areaOf rs)
   -- at least each area
   pub least : (rs : List Rect) → AllHeld 10050000 rs → (r : Rect) → List·Memᴰ r rs → areaOf r ≤ unionOf rs
@@ -59,7 +59,7 @@ pub record RowsUnion (ls : List Layer) (rows : List (List ℕ)) (rs : List Rect)
   pub ranged : AllHeld 10050000 rs
   pub areas : map areaOf rs ≡ map (areaIn ls) rows
   -- a square is covered exactly where it lies in the common ground of a row
-  pub of-rows : (x y : ℤ) → (covered rs x y ≡ true) ↔ ((row : List ℕ) × List·Memᴰ row rows × Holds x y (commonOf (rects ls row)))
+  pub of-rows : (x y : ℤ) → (covered rs x y ≡ true) ↔ ((row : List ℕ) × List·Memᴰ row rows × HoldsSquare x y (commonOf (rects ls row)))
 
 pub record TableUnions : Type 0 where
   pub tables : (ns : List ℕ) (cells : List ℤ) → Framed ns cells → let ls = layersOf ns cells in
@@ -67,4 +67,4 @@ pub record TableUnions : Type 0 where
   -- of all rows: a square lies in the common ground of one exactly where it lies in a rectangle of each layer. So the union of all rows' ground is the count of
   -- the squares that every layer covers (`whole`: all squares are counted that `covered` has)
   pub layers : (ns : List ℕ) (cells : List ℤ) → Framed ns cells → let ls = layersOf ns cells in
-      (x y : ℤ) → (covered (grounds ls (tableOf ns cells)) x y ≡ true) ↔ All (λ l. (p : ℕ) × (p < l .size) × Holds x y (l .rect p)) ls
+      (x y : ℤ) → (covered (grounds ls (tableOf ns cells)) x y ≡ true) ↔ All (λ l. (p : ℕ) × (p < l .size) × HoldsSquare x y (l .rect p)) ls

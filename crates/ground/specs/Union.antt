@@ -11,17 +11,17 @@ use Rattle.join.specs.Join.{rects, commonOf}
 
 -- ---- 02: "unit squares between neighbouring whole millimetre lines"
 -- the unit from z to z + 1 lies between low and high
-unfoldable pub within : ℤ → ℤ → ℤ → Bool
-within low high z = leZ low z && leZ (z +ℤ pos 1) high
+unfoldable pub holdsUnit : ℤ → ℤ → ℤ → Bool
+holdsUnit low high z = leZ low z && leZ (z +ℤ pos 1) high
 
 -- the unit square from x to x + 1 and from y to y + 1 lies in the rectangle
-unfoldable pub covers : ℤ → ℤ → Rect → Bool
-covers x y r = within (r .left) (r .right) x && within (r .bottom) (r .top) y
+unfoldable pub squareIn : ℤ → ℤ → Rect → Bool
+squareIn x y r = holdsUnit (r .left) (r .right) x && holdsUnit (r .bottom) (r .top) y
 
 -- 02: "that lie in at least one of them"
 abbrev pub covered : List Rect → ℤ → ℤ → Bool
 covered [] x y = false
-covered (r ∷ rs) x y = covers x y r || covered rs x y
+covered (r ∷ rs) x y = squareIn x y r || covered rs x y
 
 -- ---- 02: "the number of unit squares"
 abbrev pub one : Bool → ℕ

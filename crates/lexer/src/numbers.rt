@@ -7,8 +7,8 @@ ghost use mathlib.Core.Bool.{true};
 ghost use Prim.Native.Nat.{_+_, _^_, _<_, _≤_};
 ghost use lib.ListN.{length, getD};
 ghost use Rattle.decimal.specs.Numerals.{mostDigits};
-ghost use Rattle.decimal.specs.Bytes.{kindOf, isDigit};
-ghost use Rattle.decimal.specs.Places.{isMinus, MoreFrom, sign, zeroAt, numberFrom};
+ghost use Rattle.decimal.specs.inner.Bytes.{kindOf, isDigit};
+ghost use Rattle.decimal.specs.inner.Places.{isMinus, MoreFrom, sign, zeroAt, numberFrom};
 
 // The most digits of a number behind its first: `mostDigits - 1`.
 const MORE: usize = 7;

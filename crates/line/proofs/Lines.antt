@@ -13,7 +13,7 @@ use borrow.Author.Tests.{eqb-true, eq-eqb}
 use Rattle.lists.proofs.Tests.{both}
 use Rattle.geometry.specs.declared.Rect.{Rect}
 use Rattle.decimal.specs.Numerals.{numeral, short}
-use Rattle.decimal.specs.Bytes.{kindOf}
+use Rattle.decimal.specs.inner.Bytes.{kindOf}
 use Rattle.decimal.specs.Reading.{Reading, number}
 use Rattle.decimal.proofs.Reading.{Stops, number-reads, number-spelled}
 use Rattle.line.specs.declared.Line.{Line}

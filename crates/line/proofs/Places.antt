@@ -10,9 +10,9 @@ use lib.ListN.{length, getD, take, drop, length-append, length-drop, take-append
 use lib.Seq.{drop-drop, drop-at}
 use Rattle.decimal.specs.declared.Number.the-variants.{Value, Bad}
 use Rattle.decimal.specs.Numerals.{numeral, short}
-use Rattle.decimal.specs.Bytes.{kindOf}
+use Rattle.decimal.specs.inner.Bytes.{kindOf}
 use Rattle.decimal.specs.Reading.{Reading, number}
-use Rattle.decimal.specs.Places.{placed, numberFrom}
+use Rattle.decimal.specs.inner.Places.{placed, numberFrom}
 use Rattle.decimal.proofs.Reading.{number-spelled}
 use Rattle.decimal.proofs.Places.{place}
 use Rattle.line.specs.declared.Line.{Line}

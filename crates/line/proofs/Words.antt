@@ -12,7 +12,7 @@ use borrow.Author.Tests.{eqb-true, eq-eqb, ne-eqb}
 use Rattle.lists.proofs.Tests.{clash, same-test, total}
 use Rattle.decimal.specs.declared.Kind.{Kind}
 use Rattle.decimal.specs.declared.Kind.the-variants.{Minus, Zero, Digit, Tab, End, Other}
-use Rattle.decimal.specs.Bytes.{kindOf}
+use Rattle.decimal.specs.inner.Bytes.{kindOf}
 use Rattle.decimal.proofs.Bytes.{Is, kind-is}
 use Rattle.decimal.proofs.Places.{at-byte, inside}
 use Rattle.line.specs.Parsing.{behind}

@@ -10,7 +10,7 @@ use Rattle.decimal.specs.declared.Kind.{Kind}
 use Rattle.decimal.specs.declared.Kind.the-variants.{Minus, Zero, Digit, Tab, End, Other}
 use Rattle.decimal.specs.declared.Number.{Number}
 use Rattle.decimal.specs.Reading.{Reading}
-use Rattle.decimal.specs.Places.{placed}
+use Rattle.decimal.specs.inner.Places.{placed}
 use Rattle.line.specs.declared.Line.{Line}
 use Rattle.line.specs.declared.Found.{Found}
 use Rattle.line.specs.declared.Found.the-variants.{At, Nothing}

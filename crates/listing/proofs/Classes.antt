@@ -15,7 +15,7 @@ use Rattle.plan.specs.Plan.{layers, Sound, grown}
 use Rattle.sweep.specs.Sweep.{sweepOrder}
 use Rattle.join.specs.Table.{planTable}
 use Rattle.rows.specs.Tables.{rowsIn}
-use Rattle.rows.specs.TableRows.{TableRows}
+use Rattle.rows.specs.inner.TableRows.{TableRows}
 use Rattle.rows.proofs.TableRows.{table-rows}
 use Rattle.crossings.specs.Crossings.{classIn}
 use Rattle.crossings.specs.ClassCall.{countOf, classCounts}
@@ -23,24 +23,24 @@ use Rattle.crossings.proofs.Answers.{cause-three}
 use Rattle.paging.specs.declared.Run.{Run}
 use Rattle.paging.specs.declared.Run.the-variants.{Refused, Done}
 use Rattle.paging.specs.Calls.{runCall, runValues}
-use Rattle.tally.specs.declared.CrossingReport.{CrossingReport}
-use Rattle.tally.specs.CrossingCall.{crossingRunCause, crossingCall, crossingTable}
-use Rattle.tally.specs.Theorems.{CrossingReports}
-use Rattle.tally.proofs.Theorems.{tallies}
+use Rattle.crossing_report.specs.declared.CrossingReport.{CrossingReport}
+use Rattle.crossing_report.specs.CrossingCall.{crossingRunCause, crossingCall, crossingTable}
+use Rattle.crossing_report.specs.Theorems.{CrossingReports}
+use Rattle.crossing_report.proofs.Theorems.{tallies}
 use Rattle.printing.specs.Lines.{totalLine}
-use Rattle.printing.specs.Parts.{FitsAt}
+use Rattle.printing.specs.inner.Parts.{FitsAt}
 use Rattle.printing.proofs.Lines.{total-few}
 use Rattle.reporting.specs.Report.{runTableCells, runWorkCells}
 use Rattle.reporting.proofs.Runs.{is-done}
-use Rattle.lists.specs.Stores.{Put}
+use Rattle.lists.specs.inner.Stores.{Put}
 use Rattle.lists.specs.Lists.{sum}
-use Rattle.reporting.specs.Parts.{planCells}
+use Rattle.reporting.specs.inner.Parts.{planCells}
 use Rattle.outcomes.specs.Outcomes.{Told, done, refused}
 use Rattle.outcomes.proofs.Outcomes.{told-same, told-done}
-use Rattle.outcomes.specs.Rooms.{Room, roomForAll}
+use Rattle.outcomes.specs.inner.Rooms.{Room, roomForAll}
 use Rattle.listing.specs.Lines.{classedLines, classLines}
 use Rattle.listing.specs.Classes.{planClasses}
-use Rattle.listing.specs.Parts.{Crossed}
+use Rattle.listing.specs.inner.Parts.{Crossed}
 use Rattle.listing.proofs.Lengths.{with-few, classes-few}
 use Rattle.listing.proofs.Runs.{Finished, finished}
 use Rattle.listing.proofs.Crossings.{same-crossing, passed, ran-done, counted}

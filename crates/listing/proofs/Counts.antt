@@ -6,10 +6,10 @@ use native.Mathlib.Omega.{arith}
 use lib.ListN.{length, getD, drop, drop-of-length-le}
 use Rattle.decimal.specs.Numerals.{decimal}
 use Rattle.decimal.proofs.Places.{at-byte}
-use Rattle.lists.specs.Stores.{Put}
+use Rattle.lists.specs.inner.Stores.{Put}
 use Rattle.lists.proofs.Stores.{Left, left-all, left-put, left-none}
 use Rattle.printing.specs.Lines.{lineOf}
-use Rattle.printing.specs.Parts.{FitsAt}
+use Rattle.printing.specs.inner.Parts.{FitsAt}
 use Rattle.printing.proofs.Puts.{room-left}
 use Rattle.listing.specs.Lines.{CLASS, classLine, classLines}
 

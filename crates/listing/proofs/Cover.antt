@@ -10,7 +10,7 @@ use lib.Seq.{take-at}
 use lib.Ieee.{Float}
 use Rattle.lists.specs.Lists.{All, none-left, _and_}
 use Rattle.lists.proofs.Tests.{clash}
-use Rattle.lists.specs.Stores.{Put}
+use Rattle.lists.specs.inner.Stores.{Put}
 use Rattle.line.specs.declared.Line.the-variants.{Layer, Rectangle}
 use Rattle.line.proofs.Lengths.{layer-most, rect-most, spell-length}
 use Rattle.text.specs.Spelling.{spell, allShort}
@@ -21,13 +21,13 @@ use Rattle.survey.specs.declared.Strip.{Strip}
 use Rattle.survey.specs.declared.Covering.{Covering}
 use Rattle.survey.specs.declared.Covering.the-variants.{Kept, Refused}
 use Rattle.survey.specs.Records.{coverOf, soundRecord, coverCells}
-use Rattle.survey.specs.Theorems.{Accepted}
+use Rattle.survey.specs.Theorems.{CoverAccepted}
 use Rattle.survey.specs.CoverCall.{kept, coverCause, layerOf, coverAnswer, coverAfter, coverValues}
 use Rattle.survey.proofs.Covers.{sound→}
 use Rattle.survey.proofs.CoverCall.{cells-long}
 use Rattle.survey.proofs.Layers.{kept-sound, accepted-is, refused-is}
 use Rattle.outcomes.specs.Outcomes.{Told, done, refused}
-use Rattle.outcomes.specs.Rooms.{Room, roomForAll}
+use Rattle.outcomes.specs.inner.Rooms.{Room, roomForAll}
 use Rattle.outcomes.proofs.Outcomes.{told-same, told-done}
 use Rattle.listing.specs.Cover.{layerText, cornersSaid}
 
@@ -67,7 +67,7 @@ module _ (across upward : Strip) (corners : List Float) (cells : List ℤ) (long
         go zero z = z
         go (suc m) z = clash refl (ap is-kept (sym f ∙ (e ∙ refused-is across upward corners cells m z .0)))
 
-    accepted : Accepted (kept across upward corners) cells (coverAnswer across upward corners (length cells)) (coverAfter across upward corners cells)
+    accepted : CoverAccepted (kept across upward corners) cells (coverAnswer across upward corners (length cells)) (coverAfter across upward corners cells)
     accepted = accepted-is across upward corners cells zero-cause
 
     many : n ≡ length (kept across upward corners)

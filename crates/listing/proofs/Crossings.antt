@@ -13,7 +13,7 @@ use Rattle.sweep.specs.Sweep.{sweepOrder}
 use Rattle.join.specs.Table.{planTable}
 use Rattle.crossings.specs.ClassCall.{crossingCause, classCounts}
 use Rattle.paging.specs.Calls.{runCause, runCall}
-use Rattle.tally.specs.CrossingCall.{crossingRunCause, crossingCall}
+use Rattle.crossing_report.specs.CrossingCall.{crossingRunCause, crossingCall}
 use Rattle.reporting.specs.Report.{runTableCells, runWorkCells, emptyTable}
 use Rattle.reporting.proofs.Runs.{is-done}
 use Rattle.listing.proofs.Runs.{same-cause}

@@ -6,26 +6,26 @@ use native.Mathlib.Omega.{arith}
 use lib.IntN.{ℤ}
 use lib.ListN.{length, take, length-append}
 use Rattle.lists.specs.Lists.{sum}
-use Rattle.lists.specs.Stores.{Put}
+use Rattle.lists.specs.inner.Stores.{Put}
 use Rattle.decimal.specs.Numerals.{decimal}
 use Rattle.plan.specs.declared.Shape.{Shape}
 use Rattle.plan.specs.Causes.{onCause}
 use Rattle.plan.proofs.Plan.{few}
-use Rattle.reporting.specs.Parts.{planCells}
+use Rattle.reporting.specs.inner.Parts.{planCells}
 use Rattle.lists.proofs.Stores.{put-length}
 use Rattle.printing.specs.Lines.{refusedLine}
-use Rattle.printing.specs.Parts.{FitsAt}
+use Rattle.printing.specs.inner.Parts.{FitsAt}
 use Rattle.printing.proofs.Puts.{put-both}
 use Rattle.outcomes.proofs.Outcomes.{told-refused-with}
 use Rattle.listing.proofs.Lengths.{digits-few}
 use Rattle.outcomes.specs.Texts.{ascii}
 use Rattle.outcomes.specs.Outcomes.{Told, refusedWith}
-use Rattle.outcomes.specs.Rooms.{Room, roomForWords}
+use Rattle.outcomes.specs.inner.Rooms.{Room, roomForWords}
 use Rattle.listing.specs.declared.Fault.{Fault}
 use Rattle.listing.specs.Reasons.{windowWords}
 use Rattle.listing.specs.Windows.{hoursFrom, faultLine}
 use Rattle.listing.specs.Hours.{timedSaid, planHours}
-use Rattle.listing.specs.Parts.{Ready, ReadInto}
+use Rattle.listing.specs.inner.Parts.{Ready, ReadInto}
 use Rattle.listing.proofs.Reasons.{words-few}
 use Rattle.listing.proofs.Plans.{part-count, part-sound}
 use Rattle.listing.proofs.Windowed.{hours-read, hours-part}

@@ -13,7 +13,7 @@ use lib.Ieee.Bits.{nanBits-is, nanBits-above}
 use borrow.Author.Tests.{le-leb, lt-leb, lt-ltb, le-ltb}
 use Rattle.lists.specs.Lists.{upto}
 use Rattle.lists.proofs.Tests.{clash}
-use Rattle.lists.specs.Stores.{Put}
+use Rattle.lists.specs.inner.Stores.{Put}
 use Rattle.lists.proofs.Stores.{Left, left-all, left-byte, left-none, put-start, put-length}
 use Rattle.lists.proofs.Kept.{length-upto}
 use Rattle.listing.specs.Cover.{wordOf, floatAt, floatsIn}

@@ -8,7 +8,7 @@ use native.Mathlib.Omega.{arith}
 use lib.IntN.{ℤ}
 use lib.ListN.{length, take, length-append}
 use Rattle.lists.specs.Lists.{sum}
-use Rattle.lists.specs.Stores.{Put}
+use Rattle.lists.specs.inner.Stores.{Put}
 use Rattle.lists.proofs.Tests.{both}
 use Rattle.lists.proofs.Lists.{all-map, all-of-mem}
 use Rattle.lists.proofs.Kept.{all-keep}
@@ -28,7 +28,7 @@ use Rattle.rows.specs.RowCall.{fits, isRow}
 use Rattle.rows.proofs.RowCall.{sizes-of}
 use Rattle.rows.proofs.Theorems as Row
 use Rattle.rows.specs.Tables.{rowsIn}
-use Rattle.rows.specs.TableRows.{TableRows}
+use Rattle.rows.specs.inner.TableRows.{TableRows}
 use Rattle.windows.specs.declared.Window.{Window}
 use Rattle.windows.specs.Windows.{hoursOf, sharesMinute}
 use Rattle.timed.specs.Timed.{timedTableOf}
@@ -36,16 +36,16 @@ use Rattle.paging.specs.declared.Run.{Run}
 use Rattle.paging.specs.declared.Run.the-variants.{Refused, Done}
 use Rattle.paging.specs.Calls.{runCause, runCall, runTable}
 use Rattle.printing.specs.Lines.{fieldsEnd, rowLine, totalLine}
-use Rattle.printing.specs.Parts.{FitsAt}
+use Rattle.printing.specs.inner.Parts.{FitsAt}
 use Rattle.printing.proofs.Lines.{total-few}
 use Rattle.reporting.specs.Report.{runTableCells, runWorkCells, emptyTable}
 use Rattle.reporting.proofs.Runs.{refusal}
 use Rattle.outcomes.specs.Outcomes.{Told, done, refused}
-use Rattle.outcomes.specs.Rooms.{Room, roomForAll}
+use Rattle.outcomes.specs.inner.Rooms.{Room, roomForAll}
 use Rattle.outcomes.proofs.Outcomes.{told-same, told-done}
 use Rattle.listing.specs.Lines.{rowLineWith}
 use Rattle.listing.specs.Hours.{minutesIn, hourLines, hourReport, timedSaid}
-use Rattle.listing.specs.Parts.{Ran}
+use Rattle.listing.specs.inner.Parts.{Ran}
 use Rattle.listing.proofs.Lines.{row-first, row-some, row-last, row-more}
 use Rattle.listing.proofs.Lengths.{with-few}
 use Rattle.listing.proofs.Runs.{same-cause, Finished, finished}

@@ -10,7 +10,7 @@ use lib.IntN.{ℤ, pos, negsuc}
 use borrow.Author.Tests.{ltb-true, leb-true, lt-ltb}
 use Rattle.lists.proofs.Tests.{both}
 use Rattle.decimal.specs.Numerals.{short, mostDigits}
-use Rattle.decimal.specs.Bytes.{kindOf}
+use Rattle.decimal.specs.inner.Bytes.{kindOf}
 use Rattle.decimal.specs.Reading.{Reading}
 use Rattle.line.specs.Lines.{putField}
 use Rattle.line.specs.Parsing.{next, behind, field}
@@ -18,7 +18,7 @@ use Rattle.line.proofs.Lines.{next-some, behind-spelled, field-reads, field-spe
 use Rattle.windows.specs.Windows.{isWindow}
 use Rattle.checking.specs.Places.{firstLine}
 use Rattle.listing.specs.Reasons.{WINDOW, lineReason}
-use Rattle.listing.specs.Windows.{windowFields, minuteOf, Due, window, wrong, judged, fieldsDue, lineDue, reasoned, windowDue}
+use Rattle.listing.specs.Windows.{windowFields, minuteOf, WindowDue, window, wrong, judged, fieldsDue, lineDue, reasoned, windowDue}
 use Rattle.listing.specs.Spelled.{windowLine}
 
 -- ---- the numbers of a window are short
@@ -40,7 +40,7 @@ line-read from to r h =
 
 -- ---- a window that is read was spelled so
 -- what stands behind a window that is due
-abbrev pub Spelled : (t : List ℕ) → Due → Type 0
+abbrev pub Spelled : (t : List ℕ) → WindowDue → Type 0
 Spelled t (window from to rest) = (t ≡ windowLine from to rest) × (isWindow (record { from = from; to = to }) ≡ true)
 Spelled t (wrong reason) = 0 ≤ reason
 
@@ -73,7 +73,7 @@ module _ (t : List ℕ) where
           = behind-spelled WINDOW t a h ∙ ap (λ (l : List ℕ). WINDOW ++ l) (f .text ∙ ap (λ (l : List ℕ). putField (x .0 .0) 9 l) (g .text)) in
           subst (λ (q : (ℤ × ℤ) × List ℕ). Spelled t (fieldsDue (some q))) i (judged-spelled (x .0 .0) (y .0 .0) (y .0 .1) w)
 
-  reasoned-spelled : (reason : ℕ) (d : Due) → Spelled t d → Spelled t (reasoned reason d)
+  reasoned-spelled : (reason : ℕ) (d : WindowDue) → Spelled t d → Spelled t (reasoned reason d)
   reasoned-spelled reason (window from to rest) s = s
   reasoned-spelled reason (wrong zero) s = omega arith
   reasoned-spelled reason (wrong (suc r)) s = s

@@ -6,13 +6,13 @@ use native.Mathlib.Omega.{arith}
 use lib.ListN.{length, set, length-append}
 use lib.Seq.{sets, set-set}
 use Rattle.decimal.specs.Numerals.{decimal}
-use Rattle.lists.specs.Stores.{Put}
+use Rattle.lists.specs.inner.Stores.{Put}
 use Rattle.lists.proofs.Stores.{put-length}
 use Rattle.plan.specs.Plan.{Layer}
 use Rattle.join.specs.Join.{rects, areaIn, kindIn, guardLayer}
 use Rattle.crossings.specs.Crossings.{classIn}
 use Rattle.printing.specs.Lines.{ROW, fieldsEnd, lineOf, rowFields, rowLine}
-use Rattle.printing.specs.Parts.{FitsAt}
+use Rattle.printing.specs.inner.Parts.{FitsAt}
 use Rattle.listing.specs.Lines.{rowLineWith, classedLine}
 
 -- fields, each behind its tab

@@ -15,12 +15,12 @@ use Rattle.plan.proofs.Plan.{few}
 use Rattle.sweep.specs.Sweep.{sweepOrder, orderAfter}
 use Rattle.text.specs.declared.Reading.{Reading}
 use Rattle.text.specs.Reader.{readCause, readAnswer, cellsAfter}
-use Rattle.reporting.specs.Parts.{planCells, Lent}
+use Rattle.reporting.specs.inner.Parts.{planCells, Lent}
 use Rattle.reporting.proofs.Reports.{swept}
 use Rattle.reporting.proofs.Texts.{plan-lent, shape-read, first-read}
 use Rattle.outcomes.specs.Outcomes.{Outcome, refused}
 use Rattle.listing.specs.Plans.{textCause, onPlan}
-use Rattle.listing.specs.Parts.{Ready, Prepared}
+use Rattle.listing.specs.inner.Parts.{Ready, Prepared}
 
 -- ---- what is said
 module _ (say : Shape → List ℤ → Outcome) (t : List ℕ) where

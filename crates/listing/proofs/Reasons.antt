@@ -5,15 +5,15 @@ use mathlib.Core.Bool.{Bool, true, false}
 use Prim.Native.Nat.{ℕ, suc, _-_, _≤_}
 use lib.ListN.{length, take, drop}
 use borrow.Author.Tests.{eq-eqb, ne-eqb}
-use Rattle.lists.specs.Stores.{Put}
+use Rattle.lists.specs.inner.Stores.{Put}
 use Rattle.line.specs.Places.{startsWith}
-use Rattle.printing.specs.Parts.{FitsAt}
-use Rattle.outcomes.specs.Texts.{ascii, partAt}
+use Rattle.printing.specs.inner.Parts.{FitsAt}
+use Rattle.outcomes.specs.Texts.{ascii, textPart}
 use Rattle.outcomes.proofs.Texts.{part-few}
 use Rattle.checking.specs.Reasons.{has, leadingZero, longNumber, byteOrderMark}
 use Rattle.checking.specs.Places.{firstLine, EndsAt}
 use Rattle.listing.specs.Reasons.{WINDOW, windowReasons, windowWords, numbersReason, fieldsReason, wordReason, lineReason}
-use Rattle.listing.specs.Parts.{toldReason}
+use Rattle.listing.specs.inner.Parts.{toldReason}
 
 -- a test's result, and what it came to
 is : {test result v : Bool} → result ≡ test → result ≡ v → test ≡ v
@@ -110,10 +110,10 @@ unfolding windowWords windowReasons
 words-few reason = part-few 10 reason windowReasons
 
 module _ (buf : List ℕ) (at reason : ℕ) (lines : List ℕ) (e : lines ≡ windowReasons) where
-  pub words-room : FitsAt buf at (windowWords reason ++ 10 ∷ []) → FitsAt buf at (partAt 10 reason lines ++ 10 ∷ [])
+  pub words-room : FitsAt buf at (windowWords reason ++ 10 ∷ []) → FitsAt buf at (textPart 10 reason lines ++ 10 ∷ [])
   unfolding windowWords
   words-room h = rw e h
 
-  pub words-put : (last : List ℕ) (r : ℕ) → Put buf at (partAt 10 reason lines ++ 10 ∷ []) last r → Put buf at (windowWords reason ++ 10 ∷ []) last r
+  pub words-put : (last : List ℕ) (r : ℕ) → Put buf at (textPart 10 reason lines ++ 10 ∷ []) last r → Put buf at (windowWords reason ++ 10 ∷ []) last r
   unfolding windowWords
   words-put last r p = rw e at p

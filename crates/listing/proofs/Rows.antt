@@ -6,14 +6,14 @@ use Prim.Native.Nat.{ℕ, _+_, _-_, _≤_, _<_}
 use native.Mathlib.Omega.{arith}
 use lib.IntN.{ℤ}
 use lib.ListN.{length, take, drop}
-use Rattle.lists.specs.Stores.{Put}
+use Rattle.lists.specs.inner.Stores.{Put}
 use Rattle.lists.proofs.Stores.{Left, left-all, left-put, left-none}
 use Rattle.plan.specs.Plan.{Layer, layersOf}
 use Rattle.rows.specs.RowCall.{isRow}
 use Rattle.rows.specs.Tables.{rowsIn}
-use Rattle.rows.specs.TableRows.{TableRows}
+use Rattle.rows.specs.inner.TableRows.{TableRows}
 use Rattle.rows.proofs.TableRows.{Ahead, none-read, rows-split, next-is-row, one-read, row-inside}
-use Rattle.printing.specs.Parts.{FitsAt}
+use Rattle.printing.specs.inner.Parts.{FitsAt}
 use Rattle.printing.proofs.Puts.{room-left}
 use Rattle.listing.specs.Lines.{rowLineWith, rowLinesWith}
 

@@ -11,7 +11,7 @@ use Rattle.lists.specs.Lists.{All, none-left, _and_}
 use Rattle.windows.specs.declared.Window.{Window}
 use Rattle.windows.specs.Windows.{isWindow}
 use Rattle.listing.specs.declared.Fault.{Fault}
-use Rattle.listing.specs.Windows.{Due, window, wrong, windowDue, faultDue, beyond, faultFrom, hoursFrom}
+use Rattle.listing.specs.Windows.{WindowDue, window, wrong, windowDue, faultDue, beyond, faultFrom, hoursFrom}
 use Rattle.listing.specs.Spelled.{windowLine, windowsText, windowCells, Spells, FirstWrong, WindowsTexts}
 use Rattle.listing.proofs.LineSpelled.{line-read, Spelled, due-spelled}
 
@@ -25,7 +25,7 @@ text-read (w ∷ ws) line (_and_ h s) =
     (rw e (g .0), rw e (ap (λ (l : List ℕ). w .from ∷ w .to ∷ l) (g .1)))
 
 -- ---- a text without a fault was spelled so
-beyond-some : (d : Due) → beyond d ≡ 0 → ⊥
+beyond-some : (d : WindowDue) → beyond d ≡ 0 → ⊥
 beyond-some (window from to rest) e = omega (arith, e)
 beyond-some (wrong reason) e = go (eqb reason 1) e
   where
@@ -38,7 +38,7 @@ text-spelled zero line [] e = ([], record { many = refl; stated = none-left; tex
 text-spelled zero line (b ∷ t) e = absurd (beyond-some (windowDue (b ∷ t)) e)
 text-spelled (suc n) line t e = go (windowDue t) (due-spelled t) e (text-spelled n (suc line))
   where
-    go : (d : Due) → Spelled t d → faultDue d line (faultFrom n (suc line)) .reason ≡ 0
+    go : (d : WindowDue) → Spelled t d → faultDue d line (faultFrom n (suc line)) .reason ≡ 0
         → ((u : List ℕ) → faultFrom n (suc line) u .reason ≡ 0 → (ws : List Window) × Spells n u ws) → (ws : List Window) × Spells (suc n) t ws
     go (wrong reason) s h f = absurd (omega (arith, h))
     go (window from to rest) s h f =
@@ -55,7 +55,7 @@ first-wrong zero line (b ∷ t) r e =
     ([], b ∷ t, record { stated = none-left; text = refl; named = omega arith; here = inr (refl, omega arith, refl) })
 first-wrong (suc n) line t r e = go (windowDue t) refl (due-spelled t) e (first-wrong n (suc line))
   where
-    go : (d : Due) → windowDue t ≡ d → Spelled t d → faultDue d line (faultFrom n (suc line)) .reason ≡ suc r
+    go : (d : WindowDue) → windowDue t ≡ d → Spelled t d → faultDue d line (faultFrom n (suc line)) .reason ≡ suc r
         → ((u : List ℕ) (q : ℕ) → faultFrom n (suc line) u .reason ≡ suc q → (ws : List Window) × (rest : List ℕ) × FirstWrong n (suc line) u (faultFrom n (suc line) u) ws rest)
         → (ws : List Window) × (rest : List ℕ) × FirstWrong (suc n) line t (faultDue d line (faultFrom n (suc line))) ws rest
     go (wrong reason) k s h f = ([], t, record { stated = none-left; text = refl; named = omega arith; here = inl (omega arith, reason, k, refl) })

@@ -10,7 +10,7 @@ use borrow.Author.Tests.{le-leb, lt-leb}
 use mir.Syntax.{w32}
 use mir.Val.{SFits, toZ, ofZ}
 use mir.Facts.{toZ-ofZ}
-use Rattle.lists.specs.Stores.{Put}
+use Rattle.lists.specs.inner.Stores.{Put}
 use Rattle.geometry.specs.declared.Rect.{Rect}
 use Rattle.survey.specs.declared.Strip.{Strip}
 use Rattle.outcomes.specs.Outcomes.{refused}

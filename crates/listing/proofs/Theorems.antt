@@ -26,7 +26,7 @@ use Rattle.timed.specs.Timed.{timedTableOf}
 use Rattle.printing.specs.Lines.{lineOf}
 use Rattle.listing.specs.Lines.{classLine}
 use Rattle.listing.specs.Cover.{floatAt}
-use Rattle.outcomes.specs.Texts.{upTo, behindFirst, partAt}
+use Rattle.outcomes.specs.Texts.{upTo, behindFirst, textPart}
 use Rattle.checking.specs.Reasons.{digit, zeroLeads, runOn}
 use Rattle.listing.specs.Reasons.{windowReasons, windowWords, numbersReason, fieldsReason, wordReason, lineReason}
 use Rattle.listing.specs.Windows.{windowDue, faultLine}
@@ -45,7 +45,7 @@ minutes s cells hours sound e =
     all-map (λ row p. rw (e, p .0, p .1)) (all-keep (sharesMinute (sizesOf s) hours) all)
 
 pub listings : Listings
-unfolding classLine lineOf decimal size floatAt windowDue number isWindow faultLine windowWords windowReasons numbersReason fieldsReason wordReason lineReason partAt upTo behindFirst digit zeroLeads runOn
+unfolding classLine lineOf decimal size floatAt windowDue number isWindow faultLine windowWords windowReasons numbersReason fieldsReason wordReason lineReason textPart upTo behindFirst digit zeroLeads runOn
 listings = record {
   rows = λ more ls row. (front ls row, row-front ls row, with-front more ls row (row) 0);
   classes = classes;

@@ -24,8 +24,8 @@ use Rattle.listing.specs.declared.Taken.{Taken}
 use Rattle.listing.specs.declared.Taken.the-variants.{Window, Wrong}
 use Rattle.checking.specs.Places.{firstLine}
 use Rattle.listing.specs.Reasons.{WINDOW, lineReason}
-use Rattle.listing.specs.Windows.{windowFields, minuteOf, Due, window, wrong, judged, fieldsDue, lineDue, reasoned, windowDue}
-use Rattle.listing.specs.Parts.{Takes, judgedAt, toldReason}
+use Rattle.listing.specs.Windows.{windowFields, minuteOf, WindowDue, window, wrong, judged, fieldsDue, lineDue, reasoned, windowDue}
+use Rattle.listing.specs.inner.Parts.{Takes, judgedAt, toldReason}
 
 -- ---- a minute
 pub minute-none : (z : ℤ) → ltZ z (pos 0) ≡ true → 10081 ≡ minuteOf z
@@ -49,7 +49,7 @@ module _ (from to next : ℕ) (b : Bool) (e : b ≡ isWindow (record { from = fr
 
 -- ---- one line
 module _ (t : List ℕ) (at : ℕ) where
-  abbrev due : Due
+  abbrev due : WindowDue
   due = fieldsDue (windowFields (drop at t))
 
   -- it is not well formed

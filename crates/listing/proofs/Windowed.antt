@@ -6,14 +6,14 @@ use native.Mathlib.Omega.{arith}
 use lib.ListN.{length, set, take, drop, drop-of-length-le, length-drop}
 use lib.Seq.{take-at}
 use borrow.Author.Tests.{ne-eqb}
-use Rattle.lists.specs.Stores.{Put}
+use Rattle.lists.specs.inner.Stores.{Put}
 use Rattle.lists.proofs.Stores.{Left, left-all, left-byte, left-none, put-start}
 use Rattle.line.specs.Parsing.{next}
 use Rattle.listing.specs.declared.Taken.{Taken}
 use Rattle.listing.specs.declared.Taken.the-variants.{Window, Wrong}
 use Rattle.listing.specs.declared.Fault.{Fault}
-use Rattle.listing.specs.Windows.{Due, window, wrong, windowDue, noFault, faultDue, beyond, faultFrom, hoursDue, hoursFrom}
-use Rattle.listing.specs.Parts.{Takes, ReadInto}
+use Rattle.listing.specs.Windows.{WindowDue, window, wrong, windowDue, noFault, faultDue, beyond, faultFrom, hoursDue, hoursFrom}
+use Rattle.listing.specs.inner.Parts.{Takes, ReadInto}
 
 -- ---- a line behind the last window
 fault-beyond : (line : ℕ) (l : List ℕ) → 0 < length l → faultFrom 0 line l ≡ record { reason = beyond (windowDue l); line = line }
@@ -107,7 +107,7 @@ hours-long : (n line : ℕ) (t : List ℕ) → faultFrom n line t .reason ≡ 0 
 hours-long zero line t e = refl
 hours-long (suc n) line t e = go (windowDue t) e (hours-long n (suc line))
   where
-    go : (d : Due) → faultDue d line (faultFrom n (suc line)) .reason ≡ 0 → ((u : List ℕ) → faultFrom n (suc line) u .reason ≡ 0 → length (hoursFrom n u) ≡ 2 * n)
+    go : (d : WindowDue) → faultDue d line (faultFrom n (suc line)) .reason ≡ 0 → ((u : List ℕ) → faultFrom n (suc line) u .reason ≡ 0 → length (hoursFrom n u) ≡ 2 * n)
         → length (hoursDue d (hoursFrom n)) ≡ 2 * suc n
     go (window from to rest) q f = omega (arith, f rest q)
     go (wrong reason) q f = absurd (omega (arith, q))

@@ -11,7 +11,7 @@ use Rattle.join.specs.Table.{planTable}
 use Rattle.walk.specs.Walk.{walkOf}
 use Rattle.crossings.specs.ClassCall.{classCounts}
 use Rattle.paging.specs.Calls.{groundOnce}
-use Rattle.tally.specs.CrossingCall.{crossingRunCause}
+use Rattle.crossing_report.specs.CrossingCall.{crossingRunCause}
 use Rattle.printing.specs.Lines.{totalLine}
 use Rattle.reporting.specs.Report.{runWorkCells, emptyTable}
 use Rattle.outcomes.specs.Outcomes.{Outcome, done, refused}

@@ -7,5 +7,5 @@ pub mod Windows
 pub mod Hours
 pub mod Theorems
 pub mod Whole
-pub mod Parts
 pub mod Spelled
+pub mod inner

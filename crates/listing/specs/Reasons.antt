@@ -4,7 +4,7 @@ use mathlib.Core.List.{List, [], _∷_, _++_}
 use mathlib.Core.Bool.{cond}
 use Prim.Native.Nat.{ℕ}
 use Rattle.line.specs.Places.{startsWith}
-use Rattle.outcomes.specs.Texts.{ascii, partAt}
+use Rattle.outcomes.specs.Texts.{ascii, textPart}
 use Rattle.checking.specs.Reasons.{has, leadingZero, longNumber, byteOrderMark}
 
 -- the word WINDOW and its tab
@@ -31,7 +31,7 @@ windowReasons =
     ++ ascii "no line end at the end of the text\n"
 
 unfoldable pub windowWords : (reason : ℕ) → List ℕ
-windowWords reason = partAt 10 reason windowReasons
+windowWords reason = textPart 10 reason windowReasons
 
 -- ---- a line that is not well formed: the number of its words, less one
 -- what is wrong with its numbers

@@ -17,7 +17,7 @@ use Rattle.walk.specs.Walk.{walkOf}
 use Rattle.crossings.specs.ClassCall.{classCounts}
 use Rattle.timed.specs.Timed.{timedWalkOf, timedTableOf}
 use Rattle.paging.specs.Calls.{runCause, groundOnce}
-use Rattle.tally.specs.CrossingCall.{crossingRunCause}
+use Rattle.crossing_report.specs.CrossingCall.{crossingRunCause}
 use Rattle.text.specs.Plans.{textOf}
 use Rattle.text.specs.Theorems.{Formed, PlanText}
 use Rattle.printing.specs.Lines.{totalLine}

@@ -30,31 +30,31 @@ minuteOf (negsuc n) = 10081
 
 -- what stands where a window is due: the window and the bytes behind it, or what is wrong, by the number of its words, less one: 0 the line has not the two
 -- numbers, 1 its window is not as stated, 3 there is no line, and above 3 what is wrong with a line that is not well formed (Reasons)
-pub data Due : Type 0 where
-  window : (from to : ℕ) → (rest : List ℕ) → Due
-  wrong : (reason : ℕ) → Due
+pub data WindowDue : Type 0 where
+  window : (from to : ℕ) → (rest : List ℕ) → WindowDue
+  wrong : (reason : ℕ) → WindowDue
 
 -- the window, if it is one
-abbrev pub judged : (from to : ℕ) → (rest : List ℕ) → Due
+abbrev pub judged : (from to : ℕ) → (rest : List ℕ) → WindowDue
 judged from to rest = cond (isWindow (record { from = from; to = to })) (window from to rest) (wrong 1)
 
 -- the window of two fields
-abbrev pub fieldsDue : Reading (ℤ × ℤ) → Due
+abbrev pub fieldsDue : Reading (ℤ × ℤ) → WindowDue
 fieldsDue none = wrong 0
 fieldsDue (some p) = judged (minuteOf (p .0 .0)) (minuteOf (p .0 .1)) (p .1)
 
 -- the window of a line
-abbrev pub lineDue : List ℕ → Due
+abbrev pub lineDue : List ℕ → WindowDue
 lineDue t = fieldsDue (next (behind WINDOW t) windowFields)
 
 -- a line that is not well formed, with what is wrong with it
-abbrev pub reasoned : (reason : ℕ) → Due → Due
+abbrev pub reasoned : (reason : ℕ) → WindowDue → WindowDue
 reasoned reason (window from to rest) = window from to rest
 reasoned reason (wrong zero) = wrong reason
 reasoned reason (wrong (suc r)) = wrong (suc r)
 
 -- the window at the start of a text
-unfoldable pub windowDue : List ℕ → Due
+unfoldable pub windowDue : List ℕ → WindowDue
 windowDue [] = wrong 3
 windowDue (b ∷ t) = reasoned (lineReason (firstLine (b ∷ t))) (lineDue (b ∷ t))
 
@@ -64,12 +64,12 @@ abbrev pub noFault : Fault
 noFault = record { reason = 0; line = 0 }
 
 -- the fault of a line, where it has one; else that of the bytes behind it
-abbrev pub faultDue : Due → (line : ℕ) → (List ℕ → Fault) → Fault
+abbrev pub faultDue : WindowDue → (line : ℕ) → (List ℕ → Fault) → Fault
 faultDue (window from to rest) line behind = behind rest
 faultDue (wrong reason) line behind = record { reason = suc reason; line = line }
 
 -- what is wrong with a line behind the last window: a well formed one is a window too many, 3, though it be not as stated
-abbrev pub beyond : Due → ℕ
+abbrev pub beyond : WindowDue → ℕ
 beyond (window from to rest) = 3
 beyond (wrong reason) = cond (eqb reason 1) 3 (suc reason)
 
@@ -80,7 +80,7 @@ faultFrom zero line (b ∷ t) = record { reason = beyond (windowDue (b ∷ t)); 
 faultFrom (suc due) line t = faultDue (windowDue t) line (faultFrom due (suc line))
 
 -- a window's cells, and those of the bytes behind it
-abbrev pub hoursDue : Due → (List ℕ → List ℕ) → List ℕ
+abbrev pub hoursDue : WindowDue → (List ℕ → List ℕ) → List ℕ
 hoursDue (window from to rest) behind = from ∷ to ∷ behind rest
 hoursDue (wrong reason) behind = []
 

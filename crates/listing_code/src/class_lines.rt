@@ -1,10 +1,10 @@
 // The lines of the command `classes`, put into a buffer at a place.
-use classifier::row_class;
-use finder::row_at;
-use printer::put_field;
-use printer::put_joined;
-use printer::put_last;
-use printer::put_total;
+use crossings_code::row_class;
+use printing_code::put_field;
+use printing_code::put_joined;
+use printing_code::put_last;
+use printing_code::put_total;
+use rows_code::row_at;
 use speller::put_word;
 use totals::Total;
 ghost use mathlib.Core.Path.{_≡_};
@@ -13,15 +13,15 @@ ghost use mathlib.Core.List.{[], _∷_, _++_};
 ghost use Prim.Native.Nat.{_≤_};
 ghost use lib.ListN.{length, take};
 ghost use Rattle.decimal.specs.Numerals.{decimal};
-ghost use Rattle.lists.specs.Stores.{Put};
+ghost use Rattle.lists.specs.inner.Stores.{Put};
 ghost use Rattle.plan.specs.Plan.{layersOf};
 ghost use Rattle.plan.specs.Frames.{Framed};
 ghost use Rattle.rows.specs.RowCall.{isRow};
 ghost use Rattle.rows.specs.Tables.{rowsIn};
-ghost use Rattle.rows.specs.TableRows.{TableRows};
+ghost use Rattle.rows.specs.inner.TableRows.{TableRows};
 ghost use Rattle.totals.specs.Totals.{Kept};
 ghost use Rattle.printing.specs.Lines.{fieldsEnd, lineOf, totalLine};
-ghost use Rattle.printing.specs.Parts.{FitsAt};
+ghost use Rattle.printing.specs.inner.Parts.{FitsAt};
 ghost use Rattle.listing.specs.Lines.{CLASS, classedLine, classedLines, classLine, classLines};
 
 // The ROW line of a row of the first k layers' join, with its class; the place behind it.

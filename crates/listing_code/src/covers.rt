@@ -5,13 +5,13 @@ use outcomes::Reply;
 use outcomes_code::put_refusal;
 use survey::Covering;
 use survey::Strip;
-use surveyor::cover_records;
+use survey_code::cover_records;
 use writer::put_layer;
 ghost use mathlib.Core.Path.{_≡_};
 ghost use Prim.Native.Nat.{_/_, _%_, _<_, _≤_};
 ghost use lib.ListN.{length};
 ghost use Rattle.outcomes.specs.Outcomes.{Told};
-ghost use Rattle.outcomes.specs.Rooms.{Room};
+ghost use Rattle.outcomes.specs.inner.Rooms.{Room};
 ghost use Rattle.listing.specs.Cover.{floatsIn, floatOf, stripOf, isGiven, acrossOf, upwardOf, cornersSaid};
 
 // The most floats of an input.

@@ -1,28 +1,28 @@
 // The lines of the command `hours`, put into a buffer at a place.
 use crate::class_lines::put_two_fields;
-use finder::row_at;
 use plan::MOST_CELLS;
 use plan::Shape;
-use planner::grow_plan;
-use printer::put_joined;
-use printer::put_total;
-use timekeeper::row_minutes;
+use plan_code::grow_plan;
+use printing_code::put_joined;
+use printing_code::put_total;
+use rows_code::row_at;
 use totals::Total;
+use windows_code::row_minutes;
 ghost use mathlib.Core.Path.{_≡_};
 ghost use mathlib.Core.Bool.{true};
 ghost use mathlib.Core.List.{_++_};
 ghost use Prim.Native.Nat.{_*_, _≤_};
 ghost use lib.ListN.{length, take};
 ghost use Rattle.lists.specs.Lists.{sum};
-ghost use Rattle.lists.specs.Stores.{Put};
+ghost use Rattle.lists.specs.inner.Stores.{Put};
 ghost use Rattle.plan.specs.Plan.{layersOf, sizesOf, grown, layers, Sound};
 ghost use Rattle.plan.specs.Frames.{Framed};
 ghost use Rattle.rows.specs.RowCall.{isRow};
 ghost use Rattle.rows.specs.Tables.{rowsIn};
-ghost use Rattle.rows.specs.TableRows.{TableRows};
+ghost use Rattle.rows.specs.inner.TableRows.{TableRows};
 ghost use Rattle.totals.specs.Totals.{Kept};
 ghost use Rattle.printing.specs.Lines.{totalLine};
-ghost use Rattle.printing.specs.Parts.{FitsAt};
+ghost use Rattle.printing.specs.inner.Parts.{FitsAt};
 ghost use Rattle.listing.specs.Lines.{rowLineWith};
 ghost use Rattle.listing.specs.Hours.{minutesIn, hourLines};
 

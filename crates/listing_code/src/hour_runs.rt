@@ -8,7 +8,7 @@ use outcomes::Reply;
 use outcomes_code::put_refusal;
 use paging::Run;
 use plan::Shape;
-use planner::count_of;
+use plan_code::count_of;
 use runner::timed_run;
 ghost use mathlib.Core.Path.{_≡_};
 ghost use mathlib.Core.Option.{some};
@@ -18,11 +18,11 @@ ghost use Rattle.lists.specs.Lists.{sum};
 ghost use Rattle.plan.specs.Plan.{grown, Sound};
 ghost use Rattle.sweep.specs.Sweep.{sweepOrder};
 ghost use Rattle.reporting.specs.Report.{runTableCells};
-ghost use Rattle.reporting.specs.Parts.{planCells};
+ghost use Rattle.reporting.specs.inner.Parts.{planCells};
 ghost use Rattle.outcomes.specs.Outcomes.{Told};
-ghost use Rattle.outcomes.specs.Rooms.{Room};
+ghost use Rattle.outcomes.specs.inner.Rooms.{Room};
 ghost use Rattle.listing.specs.Hours.{timedSaid, planHours};
-ghost use Rattle.listing.specs.Parts.{Ready, Ran};
+ghost use Rattle.listing.specs.inner.Parts.{Ready, Ran};
 
 // The cells of the windows of any plan.
 const MOST_HOURS: usize = 6144;

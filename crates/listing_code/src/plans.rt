@@ -1,14 +1,14 @@
 // A plan text read, and the sweep order of its plan made.
 use plan::Shape;
-use planner::count_of;
+use plan_code::count_of;
 use reader::read;
-use sweeper::make_order;
+use sweep_code::make_order;
 use text::Reading;
 ghost use mathlib.Core.Path.{_≡_};
 ghost use lib.ListN.{length};
 ghost use Rattle.plan.specs.Limits.{mostCells, mostRects};
-ghost use Rattle.reporting.specs.Parts.{Lent};
-ghost use Rattle.listing.specs.Parts.{Ready, Prepared};
+ghost use Rattle.reporting.specs.inner.Parts.{Lent};
+ghost use Rattle.listing.specs.inner.Parts.{Ready, Prepared};
 
 // The longest input.
 pub const LONGEST_INPUT: usize = 65536;

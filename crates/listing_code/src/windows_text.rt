@@ -6,14 +6,14 @@ use lexer::read_field;
 use lexer::starts;
 use listing::Fault;
 use listing::Taken;
-use timekeeper::is_window;
 use windows::Window;
+use windows_code::is_window;
 ghost use mathlib.Core.Path.{_≡_};
 ghost use Prim.Native.Nat.{_*_, _≤_};
 ghost use lib.ListN.{length, drop};
 ghost use Rattle.checking.specs.Places.{firstLine};
 ghost use Rattle.listing.specs.Windows.{windowFields, minuteOf, fieldsDue, lineDue, windowDue, beyond};
-ghost use Rattle.listing.specs.Parts.{Takes, judgedAt, toldReason, ReadInto};
+ghost use Rattle.listing.specs.inner.Parts.{Takes, judgedAt, toldReason, ReadInto};
 
 // The first minute behind those that a window may end with.
 const NO_MINUTE: u32 = 10081;

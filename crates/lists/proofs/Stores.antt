@@ -7,7 +7,7 @@ use native.Mathlib.Numerals.{add-one}
 use native.Mathlib.Omega.{arith}
 use lib.ListN.{length, set, drop, length-set, length-append}
 use lib.Seq.{set-comm, sets, length-sets, sets-eq}
-use Rattle.lists.specs.Stores.{Put}
+use Rattle.lists.specs.inner.Stores.{Put}
 
 module _ {A : Type 0} where
   sets-append : (xs ys b : List A) (i : ℕ) → sets (sets b i xs) (i + length xs) ys ≡ sets b i (xs ++ ys)

@@ -1,3 +1,3 @@
 pub mod Lists
 pub mod Sorting
-pub mod Stores
+pub mod inner

@@ -27,7 +27,7 @@ use Rattle.plan.proofs.Spots.{rect-drop, rect-take, size-of, layer-at, layer-wi
 use Rattle.nearest.specs.declared.Near.{Near}
 use Rattle.nearest.specs.declared.NearestAnswer.{NearestAnswer}
 use Rattle.nearest.specs.Nearest.{squaredGap, nothing, nearer, nearestTo, nearestIn, nearestOf, nearestCause, nearestCall, nearCells}
-use Rattle.nearest.specs.Parts.{Part, Within}
+use Rattle.nearest.specs.inner.Parts.{Part, Within}
 use Rattle.nearest.specs.Theorems.{IsNearest, empty, nearest}
 
 -- ---- causes

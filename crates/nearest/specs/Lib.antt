@@ -1,3 +1,3 @@
 pub mod Nearest
 pub mod Theorems
-pub mod Parts
+pub mod inner

@@ -5,16 +5,16 @@ use Prim.Native.Nat.{ℕ, _+_, _-_, _≤_, _<_}
 use native.Mathlib.Omega.{arith}
 use lib.ListN.{length, take, drop, length-append}
 use borrow.Author.Tests.{le-leb, lt-leb}
-use Rattle.lists.specs.Stores.{Put}
+use Rattle.lists.specs.inner.Stores.{Put}
 use Rattle.lists.proofs.Stores.{put-start, put-length}
 use Rattle.outcomes.specs.declared.Reply.{Reply}
-use Rattle.printing.specs.Parts.{FitsAt}
+use Rattle.printing.specs.inner.Parts.{FitsAt}
 use Rattle.printing.specs.Lines.{refusedLine}
 use Rattle.printing.proofs.Lines.{refused-few}
 use Rattle.printing.proofs.Puts.{put-same}
-use Rattle.outcomes.specs.Texts.{ascii, partAt}
-use Rattle.outcomes.specs.Places.{EndsAt, StartsAt}
-use Rattle.outcomes.specs.Rooms.{Room, roomForWords}
+use Rattle.outcomes.specs.Texts.{ascii, textPart}
+use Rattle.outcomes.specs.inner.Places.{EndsAt, StartsAt}
+use Rattle.outcomes.specs.inner.Rooms.{Room, roomForWords}
 use Rattle.outcomes.specs.Outcomes.{Outcome, Told, errorLine, causeLines, causeLine, causeText, refusedWith, refused, misused, done}
 use Rattle.outcomes.proofs.Texts.{part-few, part-bytes}
 
@@ -101,13 +101,22 @@ name-then err mid words m h p =
     record { fits = omega (arith, length-append words (10 ∷ []), p .place, put-length err mid (ascii "overlay: ") 0 m p) }
 
 -- the part of a text that starts and ends at these places
-pub part-error : (err errAfter text : List ℕ) (e n from end r : ℕ) → StartsAt e n text from → EndsAt e text from end
-    → Put err 0 (errorLine (take (end - from) (drop from text))) errAfter r → Put err 0 (errorLine (partAt e n text)) errAfter r
-part-error err errAfter text e n from end r s f p = put-same err 0 _ _ errAfter r p (ap errorLine (sym (part-bytes e text from end f ∙ s .part)))
+pub part-between : (text : List ℕ) (e n from end : ℕ) → StartsAt e n text from → EndsAt e text from end → take (end - from) (drop from text) ≡ textPart e n text
+part-between text e n from end s f = part-bytes e text from end f ∙ s .part
+
+-- there is room for it where there is room for the text
+pub part-room : (part text : List ℕ) (e n at room : ℕ) → part ≡ textPart e n text → at + length text ≤ room → at + length part ≤ room
+part-room part text e n at room p h = omega (arith, ap length p, part-few e n text)
+
+pub error-room : (part text : List ℕ) (e n room : ℕ) → part ≡ textPart e n text → length text + 10 ≤ room → length part + 10 ≤ room
+error-room part text e n room p h = omega (arith, ap length p, part-few e n text)
+
+pub part-error : (err errAfter part text : List ℕ) (e n r : ℕ) → part ≡ textPart e n text → Put err 0 (errorLine part) errAfter r → Put err 0 (errorLine (textPart e n text)) errAfter r
+part-error err errAfter part text e n r q p = put-same err 0 _ _ errAfter r p (ap errorLine (sym q))
 
 -- the line of a cause
 pub cause-put : (err errAfter lines : List ℕ) (cause n r : ℕ) → lines ≡ causeLines → n ≡ causeLine cause
-    → Put err 0 (errorLine (partAt 10 n lines)) errAfter r → Put err 0 (errorLine (causeText cause)) errAfter r
+    → Put err 0 (errorLine (textPart 10 n lines)) errAfter r → Put err 0 (errorLine (causeText cause)) errAfter r
 unfolding causeText
 cause-put err errAfter lines cause n r e f p = rw (e, f) at p
 
@@ -117,6 +126,5 @@ line-known cause h = rw (le-leb cause 24 h) refl
 pub line-other : (cause : ℕ) → 24 < cause → 0 ≡ causeLine cause
 line-other cause h = rw (lt-leb cause 24 h) refl
 
-pub part-put : (buf last text : List ℕ) (at e n from end r : ℕ) → StartsAt e n text from → EndsAt e text from end
-    → Put buf at (take (end - from) (drop from text)) last r → Put buf at (partAt e n text) last r
-part-put buf last text at e n from end r s f p = put-same buf at _ _ last r p (sym (part-bytes e text from end f ∙ s .part))
+pub part-put : (buf last part text : List ℕ) (at e n r : ℕ) → part ≡ textPart e n text → Put buf at part last r → Put buf at (textPart e n text) last r
+part-put buf last part text at e n r q p = put-same buf at _ _ last r p (sym q)

@@ -10,8 +10,8 @@ use lib.ListN.{length, getD, take, drop, drop-of-length-le, length-drop}
 use lib.Seq.{drop-drop}
 use borrow.Author.Tests.{eq-eqb, ne-eqb}
 use Rattle.decimal.proofs.Places.{at-byte}
-use Rattle.outcomes.specs.Texts.{upTo, behindFirst, partAt}
-use Rattle.outcomes.specs.Places.{EndsAt, GoesOnAt, StartsAt}
+use Rattle.outcomes.specs.Texts.{upTo, behindFirst, textPart}
+use Rattle.outcomes.specs.inner.Places.{EndsAt, GoesOnAt, StartsAt}
 
 -- what stands before the first e is the start of the text
 pub up-to-take : (e : ℕ) (t : List ℕ) → take (length (upTo e t)) t ≡ upTo e t
@@ -46,8 +46,8 @@ behind-few : (e : ℕ) (t : List ℕ) → length (behindFirst e t) ≤ length t
 behind-few e t = omega (arith, ap length (behind-drop e t), length-drop (suc (length (upTo e t))) t)
 
 -- a part is no longer than the text
-pub part-few : (e n : ℕ) (t : List ℕ) → length (partAt e n t) ≤ length t
-unfolding partAt
+pub part-few : (e n : ℕ) (t : List ℕ) → length (textPart e n t) ≤ length t
+unfolding textPart
 part-few e zero t = up-to-few e t
 part-few e (suc n) t = omega (arith, part-few e n (behindFirst e t), behind-few e t)
 
@@ -116,27 +116,27 @@ module _ (e : ℕ) (text : List ℕ) where
   pub record Skipped (n i from : ℕ) : Type 0 where
     pub few : i ≤ n
     pub inside : from ≤ length text
-    pub rest : partAt e (n - i) (drop from text) ≡ partAt e n text
+    pub rest : textPart e (n - i) (drop from text) ≡ textPart e n text
 
   pub skipped-none : (n : ℕ) → Skipped n 0 0
   skipped-none n =
       let k : n - 0 ≡ n = omega arith in
-      record { few = omega arith; inside = omega arith; rest = ap (λ (j : ℕ). partAt e j text) k }
+      record { few = omega arith; inside = omega arith; rest = ap (λ (j : ℕ). textPart e j text) k }
 
   module _ (n i from : ℕ) (s : Skipped n i from) where
     pub skipped-more : i < n → (r : ℕ) → GoesOnAt e text from r → Skipped n (i + 1) r
-    unfolding partAt
+    unfolding textPart
     skipped-more h r g =
         let m = n - (i + 1) in
         let k : n - i ≡ suc m = omega arith in
         record {
           few = omega arith;
           inside = g .inside;
-          rest = ap (partAt e m) (g .rest) ∙ (sym (ap (λ (j : ℕ). partAt e j (drop from text)) k) ∙ s .rest);
+          rest = ap (textPart e m) (g .rest) ∙ (sym (ap (λ (j : ℕ). textPart e j (drop from text)) k) ∙ s .rest);
         }
 
     pub skipped-all : n ≤ i → StartsAt e n text from
-    unfolding partAt
+    unfolding textPart
     skipped-all h =
         let k : 0 ≡ n - i = omega arith in
-        record { inside = s .inside; part = ap (λ (j : ℕ). partAt e j (drop from text)) k ∙ s .rest }
+        record { inside = s .inside; part = ap (λ (j : ℕ). textPart e j (drop from text)) k ∙ s .rest }

@@ -1,4 +1,3 @@
 pub mod Texts
 pub mod Outcomes
-pub mod Places
-pub mod Rooms
+pub mod inner

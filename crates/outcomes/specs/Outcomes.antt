@@ -7,7 +7,7 @@ use lib.Dec.{leb}
 use lib.ListN.{length, drop}
 use Rattle.printing.specs.Lines.{refusedLine}
 use Rattle.outcomes.specs.declared.Reply.{Reply}
-use Rattle.outcomes.specs.Texts.{ascii, partAt}
+use Rattle.outcomes.specs.Texts.{ascii, textPart}
 
 -- an exit status, and the bytes for standard output and for standard error
 pub record Outcome : Type 0 where
@@ -61,7 +61,7 @@ causeLine cause = cond (leb cause 24) cause 0
 
 -- a cause in words
 unfoldable pub causeText : (cause : ℕ) → List ℕ
-causeText cause = partAt 10 (causeLine cause) causeLines
+causeText cause = textPart 10 (causeLine cause) causeLines
 
 -- a refusal: its line as 01 has it, lines on standard error that say why, status 1
 unfoldable pub refusedWith : (cause : ℕ) → (lines : List ℕ) → Outcome

@@ -22,6 +22,6 @@ behindFirst e [] = []
 behindFirst e (b ∷ t) = cond (eqb b e) t (behindFirst e t)
 
 -- the part of a number, from 0: what stands behind so many bytes e, up to the next one
-unfoldable pub partAt : (e n : ℕ) → List ℕ → List ℕ
-partAt e zero t = upTo e t
-partAt e (suc n) t = partAt e n (behindFirst e t)
+unfoldable pub textPart : (e n : ℕ) → List ℕ → List ℕ
+textPart e zero t = upTo e t
+textPart e (suc n) t = textPart e n (behindFirst e t)

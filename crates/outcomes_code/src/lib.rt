@@ -3,20 +3,21 @@ mod parts;
 mod words;
 
 use outcomes::Reply;
-use printer::put_refused;
+use printing_code::put_refused;
 use speller::put_word;
 use words::cause_line;
 use words::cause_lines;
 ghost use mathlib.Core.List.{[], _∷_, _++_};
 ghost use Prim.Native.Nat.{_+_, _≤_};
 ghost use lib.ListN.{length};
-ghost use Rattle.lists.specs.Stores.{Put};
-ghost use Rattle.printing.specs.Parts.{FitsAt};
-ghost use Rattle.outcomes.specs.Texts.{partAt};
+ghost use Rattle.lists.specs.inner.Stores.{Put};
+ghost use Rattle.printing.specs.inner.Parts.{FitsAt};
+ghost use Rattle.outcomes.specs.Texts.{textPart};
 ghost use Rattle.outcomes.specs.Outcomes.{Told, errorLine, causeText, refused, misused};
-ghost use Rattle.outcomes.specs.Rooms.{Room, roomForWords};
+ghost use Rattle.outcomes.specs.inner.Rooms.{Room, roomForWords};
 pub use parts::end_of;
 pub use parts::part_from;
+pub use parts::part_of;
 
 // A refusal: its line, and what its cause means.
 pub fn put_refusal(out: &mut [u8], err: &mut [u8], cause: u32) -> Reply
@@ -57,21 +58,17 @@ pub fn put_cause(err: &mut [u8], cause: u32) -> usize
 // The part of a number of a text, from 0, as a line on standard error; its length.
 pub fn put_error_part(err: &mut [u8], text: &[u8], n: u32, e: u8) -> usize
     requires { ⌜ length (now text) + 10 ≤ length (now err) ⌝ }
-    ensures { λ r. ⌜ Put (now (err .entry)) 0 (errorLine (partAt e n (now (text .entry)))) (now (err .exit)) r ⌝ }
+    ensures { λ r. ⌜ Put (now (err .entry)) 0 (errorLine (textPart e n (now (text .entry)))) (now (err .exit)) r ⌝ }
 {
-    let from = part_from(text, n, e);
-    let end = end_of(text, from, e);
-    put_error(err, &text[from..end])
+    put_error(err, part_of(text, n, e))
 }
 
 // The part of a number of a text, from 0; the place behind it.
 pub fn put_part(buf: &mut [u8], at: usize, text: &[u8], n: u32, e: u8) -> usize
     requires { ⌜ at + length (now text) ≤ length (now buf) ⌝ }
-    ensures { λ r. ⌜ Put (now (buf .entry)) at (partAt e n (now (text .entry))) (now (buf .exit)) r ⌝ }
+    ensures { λ r. ⌜ Put (now (buf .entry)) at (textPart e n (now (text .entry))) (now (buf .exit)) r ⌝ }
 {
-    let from = part_from(text, n, e);
-    let end = end_of(text, from, e);
-    put_word(buf, at, &text[from..end])
+    put_word(buf, at, part_of(text, n, e))
 }
 
 // Words as a line on standard error; its length.

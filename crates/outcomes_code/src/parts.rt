@@ -1,7 +1,18 @@
 // Parts of texts, each ended by one byte.
+ghost use mathlib.Core.Path.{_≡_};
 ghost use Prim.Native.Nat.{_≤_};
 ghost use lib.ListN.{length};
-ghost use Rattle.outcomes.specs.Places.{EndsAt, GoesOnAt, StartsAt};
+ghost use Rattle.outcomes.specs.Texts.{textPart};
+ghost use Rattle.outcomes.specs.inner.Places.{EndsAt, GoesOnAt, StartsAt};
+
+// The part of a number of a text, from 0, each part ended by the byte e.
+pub fn part_of(text: &[u8], n: u32, e: u8) -> &[u8]
+    ensures { λ r. ⌜ now r ≡ textPart e n (now (text .entry)) ⌝ }
+{
+    let from = part_from(text, n, e);
+    let end = end_of(text, from, e);
+    &text[from..end]
+}
 
 // The place of the first byte e from a place on, or the end of the text.
 pub fn end_of(text: &[u8], from: usize, e: u8) -> usize

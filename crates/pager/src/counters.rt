@@ -1,12 +1,10 @@
 // A run's counter (02: the run record): what the calls ask of it, and how they write it.
+use paging::MOST_PROBES;
 ghost use mathlib.Core.Path.{_≡_};
 ghost use mathlib.Core.List.{[], _∷_};
 ghost use lib.ListN.{length};
 ghost use Rattle.plan.specs.Causes.{unless, _orElse_};
 ghost use Rattle.paging.specs.Calls.{oneCell, current};
-
-// More probes than any walk has.
-const MOST: u64 = 144115188075855872;
 
 // The first cause that refuses a fresh start: that of its plan and order, or its counter's.
 pub fn fresh_cause(cause: u32, counter: &[u64]) -> u32
@@ -29,7 +27,7 @@ pub fn agrees(counter: &[u64], count: u64) -> bool
         return false;
     }
     let held = counter[0];
-    if held >= MOST {
+    if held >= MOST_PROBES {
         return false;
     }
     held == count

@@ -9,10 +9,10 @@ use paging::Page;
 use paging::Ticket;
 use plan::MOST_CELLS;
 use plan::Shape;
-use planner::grow_plan;
-use planner::is_drawn;
+use plan_code::grown_cells;
+use plan_code::is_drawn;
 use slots::frame_of;
-use sweeper::is_order;
+use sweep_code::is_order;
 ghost use mathlib.Core.Path.{_≡_};
 ghost use Prim.Native.Nat.{_≤_};
 ghost use lib.ListN.{length};
@@ -45,16 +45,6 @@ pub fn first_over(shape: Shape, grown: &[i32], order: &[u32]) -> First
     }
 }
 
-pub fn first_grown(shape: Shape, cells: &[i32], order: &[u32]) -> First
-    requires { ⌜ Sound shape (now cells) ⌝ }
-    ensures { λ r. ⌜ r ≡ firstOf shape (now (cells .entry)) (now (order .entry)) ⌝ }
-{
-    let mut run = [0i32; MOST_CELLS];
-    grow_plan(shape, cells, &mut run);
-    let n = cells.len();
-    first_over(shape, &run[..n], order)
-}
-
 // ---- a page
 pub fn page_over(
     shape: Shape,
@@ -79,37 +69,6 @@ pub fn page_over(
     page_at(
         frame_of(shape, timed),
         grown,
-        hours,
-        order,
-        ticket,
-        counter,
-        budget,
-        table,
-    )
-}
-
-pub fn page_grown(
-    shape: Shape,
-    cells: &[i32],
-    timed: bool,
-    hours: &[u32],
-    order: &[u32],
-    ticket: Ticket,
-    counter: &mut [u64],
-    budget: u32,
-    table: &mut [u32],
-) -> Page
-    requires { ⌜ Sound shape (now cells) × (Hourly timed shape (now hours) × Paired timed shape (now hours)) ⌝ }
-    ensures { λ r. ⌜ AsPage timed shape (now (cells .entry)) (now (hours .entry))
-        (now (order .entry)) ticket (now (counter .entry)) budget (now (table .entry)) r (now (counter .exit)) (now (table .exit)) ⌝ }
-{
-    let mut run = [0i32; MOST_CELLS];
-    grow_plan(shape, cells, &mut run);
-    let n = cells.len();
-    page_over(
-        shape,
-        &run[..n],
-        timed,
         hours,
         order,
         ticket,
@@ -148,9 +107,11 @@ pub fn page_on(
             table,
         );
     }
-    page_grown(
+    let mut run = [0i32; MOST_CELLS];
+    let grown = grown_cells(shape, cells, &mut run);
+    page_over(
         shape,
-        cells,
+        grown,
         timed,
         hours,
         order,

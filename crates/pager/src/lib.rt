@@ -12,17 +12,18 @@ use answers::refused_page;
 use counters::fresh_cause;
 use counters::write_count;
 use cursors::ended_cursor;
-use grown::first_grown;
 use grown::first_over;
 use grown::page_on;
 use grown::refused_first;
 use paging::Fresh;
 use paging::Page;
 use paging::Ticket;
+use plan::MOST_CELLS;
 use plan::Shape;
-use planner::is_drawn;
-use planner::plan_cause;
-use timekeeper::hours_cause;
+use plan_code::grown_cells;
+use plan_code::is_drawn;
+use plan_code::plan_cause;
+use windows_code::hours_cause;
 ghost use mathlib.Core.Path.{_≡_};
 ghost use mathlib.Core.Option.{none, some};
 ghost use Rattle.pager.specs.Answers.{firstOf};
@@ -63,7 +64,9 @@ fn first_of(shape: Shape, cells: &[i32], order: &[u32]) -> First
     if is_drawn(shape) {
         return first_over(shape, cells, order);
     }
-    first_grown(shape, cells, order)
+    let mut run = [0i32; MOST_CELLS];
+    let grown = grown_cells(shape, cells, &mut run);
+    first_over(shape, grown, order)
 }
 
 // A page of the walk from a ticket on, within a budget of probes, into a lent table (01: the page call); the counter is that of the ticket's run.

@@ -21,7 +21,7 @@ use Rattle.paging.specs.Overlays.{Overlay}
 use Rattle.paging.specs.Cursors.{dueCursor, resume}
 use Rattle.rows.specs.Tables.{fill, rowsIn}
 use Rattle.paging.specs.Pages.{room, paged, pageOf}
-use Rattle.paging.specs.Theorems.{Call, cause, answer, after, counted}
+use Rattle.paging.specs.Theorems.{Call, cause, answer, tableAfter, counted}
 use Rattle.paging.proofs.Overlays.{placed, Lawful, walk-long}
 use Rattle.paging.proofs.Resume.{resume-is}
 use Rattle.paging.proofs.Tables.{places-filled}
@@ -42,7 +42,7 @@ module _ {S : Type 0} (o : Overlay S) where
 
   -- the rows that a call hands out
   abbrev pub rowsFrom : Call → List (List ℕ)
-  rowsFrom x = rowsIn (length (o .sizes)) (answer x .rows) (after x)
+  rowsFrom x = rowsIn (length (o .sizes)) (answer x .rows) (tableAfter x)
 
   -- the call allows a probe and a row
   abbrev pub allows : Call → Bool
@@ -53,7 +53,7 @@ module _ {S : Type 0} (o : Overlay S) where
     pub counter : cause x ≡ 0 → x .counter ≡ x .ticket .count ∷ []
     pub counted : cause x ≡ 0 → counted x ≡ (x .ticket .count + pageOn x .done) ∷ []
     pub page : cause x ≡ 0 → answer x ≡ pageOf o (x .ticket .count) (pageOn x)
-    pub table : cause x ≡ 0 → after x ≡ fill (placed o (pageOn x .rows)) (x .table)
+    pub table : cause x ≡ 0 → tableAfter x ≡ fill (placed o (pageOn x .rows)) (x .table)
     pub none : (cause x ≡ 0 → ⊥) → (answer x .probes ≡ 0) × (answer x .rows ≡ 0) × (answer x .area ≡ totalOf 0)
 
   -- the call answers what the search's call does

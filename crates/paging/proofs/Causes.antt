@@ -41,7 +41,7 @@ use Rattle.paging.specs.Cursors.{resume}
 use Rattle.paging.specs.Pages.{room, paged}
 use Rattle.paging.specs.Calls.{oneCell, current, freshCause, freshCall, freshCounter, stopNumber, refusedPage, pageCause, pageCall, pageTable, pageCounter, runCause, runCall, runTable}
 use Rattle.paging.specs.Inner.{causeBefore, pageCauseOn, runCauseOn}
-use Rattle.paging.specs.Theorems.{Call, overlayAt, cause, answer, after, counted, takes, noTrial, Good, Current, Hours, OrderChecks}
+use Rattle.paging.specs.Theorems.{Call, overlayAt, cause, answer, tableAfter, counted, takes, noTrial, Good, Current, Hours, OrderChecks}
 use Rattle.paging.proofs.Overlays.{of-plan, of-timed}
 use Rattle.paging.proofs.Named.{resumes}
 use Rattle.paging.proofs.Counters.{current-tells}
@@ -296,7 +296,7 @@ unfolding freshCall freshCounter
 refused-fresh s cells order counter n e = (rw e, rw e)
 
 pub refused-page : (x : Call) (n : ℕ) → cause x ≡ suc n
-    → (answer x ≡ record { stop = Refused (suc n); rows = 0; probes = 0; area = totalOf 0; ticket = x .ticket }) × (after x ≡ x .table) × (counted x ≡ x .counter)
+    → (answer x ≡ record { stop = Refused (suc n); rows = 0; probes = 0; area = totalOf 0; ticket = x .ticket }) × (tableAfter x ≡ x .table) × (counted x ≡ x .counter)
 unfolding pageCall pageTable pageCounter
 refused-page x n e = (rw e, rw e, rw e)
 

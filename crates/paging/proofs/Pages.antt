@@ -17,7 +17,7 @@ use Rattle.paging.specs.Overlays.{Overlay}
 use Rattle.paging.specs.Cursors.{resume, dueCursor}
 use Rattle.rows.specs.Tables.{fill, rowsIn}
 use Rattle.paging.specs.Pages.{room, pageOf}
-use Rattle.paging.specs.Theorems.{Call, cause, answer, after, counted, Due, PageHolds}
+use Rattle.paging.specs.Theorems.{Call, cause, answer, tableAfter, counted, Due, PageHolds}
 use Rattle.paging.proofs.Overlays.{placed, Lawful}
 use Rattle.paging.proofs.Tables.{places-filled}
 use Rattle.rows.proofs.Tables.{fill-long, fill-kept}
@@ -33,7 +33,7 @@ module _ {S : Type 0} (o : Overlay S) (l : Lawful o) (x : Call) (v : Serves o x)
   its-answer = v .page e ∙ rw r
 
   -- its rows fill the table
-  its-table : after x ≡ fill (placed o (its .rows)) (x .table)
+  its-table : tableAfter x ≡ fill (placed o (its .rows)) (x .table)
   its-table = v .table e ∙ rw r
 
   -- each of them has k places
@@ -41,7 +41,7 @@ module _ {S : Type 0} (o : Overlay S) (l : Lawful o) (x : Call) (v : Serves o x)
   its-long = rw r at (page-long o l x)
 
   -- what 01 says of the call
-  pub page-holds : PageHolds o x w (answer x) (after x)
+  pub page-holds : PageHolds o x w (answer x) (tableAfter x)
   page-holds = record {
     rows = rw (its-answer, its-table) (filled ∙ ap (placed o) (page-rows rowOf b m w));
     stops = rw its-answer (⊎-elim (λ e. inl (e, page-ended rowOf b m w .0 e)) (⊎-elim (λ e. inr (inl (full e))) (λ e. inr (inr (spent e)))) (page-stops rowOf b m w));

@@ -21,7 +21,7 @@ use Rattle.paging.specs.declared.Cursor.{Cursor}
 use Rattle.paging.specs.Overlays.{overlay, overlayOf}
 use Rattle.paging.specs.Cursors.{dueCursor, resume}
 use Rattle.paging.specs.Calls.{freshCause, freshCall, freshCounter, WorkAfter}
-use Rattle.paging.specs.Theorems.{Call, overlayAt, cause, answer, after, Due, PageHolds, AnswersHold, Answers}
+use Rattle.paging.specs.Theorems.{Call, overlayAt, cause, answer, tableAfter, Due, PageHolds, AnswersHold, Answers}
 use Rattle.paging.proofs.Overlays.{of-plan, of-timed, laws-of}
 use Rattle.paging.proofs.Resume.{resume-due}
 use Rattle.paging.proofs.Named.{due-is, left-due}
@@ -71,7 +71,7 @@ fresh-due windows s cells order counter typed f =
 
 -- ---- one page call
 -- a cursor's page is of what is left there
-pub page-due : (x : Call) (n : ℕ) → Typed (x .shape) → cause x ≡ 0 → let o = overlayAt x in Due (o .sizes) (x .ticket .cursor) (drop n (o .walk)) → PageHolds o x (drop n (o .walk)) (answer x) (after x)
+pub page-due : (x : Call) (n : ℕ) → Typed (x .shape) → cause x ≡ 0 → let o = overlayAt x in Due (o .sizes) (x .ticket .cursor) (drop n (o .walk)) → PageHolds o x (drop n (o .walk)) (answer x) (tableAfter x)
 page-due x n typed e d =
     let h = sound-of (x .windows) (x .shape) (x .cells) (x .order) typed (accepted-first x e) in
     let l = laws-of (x .windows) (x .shape) (x .cells) h in
@@ -79,7 +79,7 @@ page-due x n typed e d =
     page-holds (overlayAt x) l x (serves-own x) (drop n (overlayAt x .walk)) e r (λ m. rw drop-drop (due-left (x .windows) (x .shape) (x .cells) h (n + m)))
 
 -- and something is
-pub page-left : (x : Call) → Typed (x .shape) → cause x ≡ 0 → let o = overlayAt x in (n : ℕ) × Due (o .sizes) (x .ticket .cursor) (drop n (o .walk)) × PageHolds o x (drop n (o .walk)) (answer x) (after x)
+pub page-left : (x : Call) → Typed (x .shape) → cause x ≡ 0 → let o = overlayAt x in (n : ℕ) × Due (o .sizes) (x .ticket .cursor) (drop n (o .walk)) × PageHolds o x (drop n (o .walk)) (answer x) (tableAfter x)
 page-left x typed e = let g = page-told x typed .none .0 e .1 in (g .0, g .1, page-due x (g .0) typed e (g .1))
 
 -- ---- the work buffer

@@ -57,20 +57,20 @@ cause x = pageCause (x .windows) (x .shape) (x .cells) (x .order) (x .ticket) (x
 abbrev pub answer : Call → Page
 answer x = pageCall (x .windows) (x .shape) (x .cells) (x .order) (x .ticket) (x .counter) (x .budget) (x .table)
 
-abbrev pub after : Call → List ℕ
-after x = pageTable (x .windows) (x .shape) (x .cells) (x .order) (x .ticket) (x .counter) (x .budget) (x .table)
+abbrev pub tableAfter : Call → List ℕ
+tableAfter x = pageTable (x .windows) (x .shape) (x .cells) (x .order) (x .ticket) (x .counter) (x .budget) (x .table)
 
 abbrev pub counted : Call → List ℕ
 counted x = pageCounter (x .windows) (x .shape) (x .cells) (x .order) (x .ticket) (x .counter) (x .budget) (x .table)
 
 -- ---- rows
 -- k, the cells of a row: one for each layer
-abbrev pub rowCells : {S : Type 0} → Overlay S → ℕ
-rowCells o = length (o .sizes)
+abbrev pub rowSize : {S : Type 0} → Overlay S → ℕ
+rowSize o = length (o .sizes)
 
 -- 01: "A table of m cells takes m / k rows, rounded down, never more than 1,000,000."
 abbrev pub takes : {S : Type 0} → Overlay S → (table : List ℕ) → ℕ
-takes o table = min (length table / rowCells o) 1000000
+takes o table = min (length table / rowSize o) 1000000
 
 -- ---- cursors
 -- 01: "the guard's layer and place, how many slots are filled (0 to 4), the chosen places in five cells (unfilled ones 0), first slot first, and the place
@@ -116,20 +116,20 @@ OrderChecks windows s cells order Next = PlanChecks s cells (Check 24 (Hours win
 -- ---- one accepted page call on an overlay: w is what is left of the walk at its ticket, p what it answers, and the table is left so
 pub record PageHolds {S : Type 0} (o : Overlay S) (x : Call) (w : List (Probe S)) (p : Page) (left : List ℕ) : Type 0 where
   -- it does the first probes that are left, and puts out the rows that they yield
-  pub rows : rowsIn (rowCells o) (p .rows) left ≡ map (placesOf (o .sizes)) (rowsOf rowOf (take (p .probes) w))
+  pub rows : rowsIn (rowSize o) (p .rows) left ≡ map (placesOf (o .sizes)) (rowsOf rowOf (take (p .probes) w))
   -- 01: "Before each trial it asks in this order: walk over, stop with Ended; table full, stop with Full; trials done equal the budget, stop with Spent."
   pub stops : ((p .stop ≡ Ended) × (p .probes ≡ length w))
       ⊎ (((p .stop ≡ Full) × (p .probes < length w) × (p .rows ≡ takes o (x .table)))
       ⊎ ((p .stop ≡ Spent) × (p .probes < length w) × (p .rows < takes o (x .table)) × (p .probes ≡ x .budget)))
   pub going : (d : ℕ) → d < p .probes → (length (rowsOf rowOf (take d w)) < takes o (x .table)) × (d < x .budget)
   -- the sum of its rows' areas. 02, Q-13: "kept as whole square metres and a rest below 1,000,000 square millimetres" (`Totals`: the crate totals)
-  pub area : p .area ≡ totalOf (sum (map (o .area) (rowsIn (rowCells o) (p .rows) left)))
+  pub area : p .area ≡ totalOf (sum (map (o .area) (rowsIn (rowSize o) (p .rows) left)))
   -- the ticket for what is due next, with 02's "new count"; the counter holds it too
   pub ticket : Due (o .sizes) (p .ticket .cursor) (drop (p .probes) w) × (p .ticket .count ≡ x .ticket .count + p .probes)
   pub counter : counted x ≡ (x .ticket .count + p .probes) ∷ []
   -- 01: "Rows fill it from its first cell; the rest keeps its contents."
   pub long : length left ≡ length (x .table)
-  pub kept : drop (rowCells o * p .rows) left ≡ drop (rowCells o * p .rows) (x .table)
+  pub kept : drop (rowSize o * p .rows) left ≡ drop (rowSize o * p .rows) (x .table)
 
 -- ---- the whole run
 -- demand 3: "the whole run succeeds exactly when the table fits, and then hands out all its rows and reports that length." Of a run of a plan on an overlay,
@@ -173,13 +173,13 @@ pub record Answers : Type 0 where
       OrderChecks (x .windows) (x .shape) (x .cells) (x .order) (Check 6 (Good (overlayAt x) (x .ticket .cursor)) (Check 18 now Passed)) (cause x)
   -- 01: a refusal "also returns its ticket as given"; every buffer is left as it was
   pub page-refused : (x : Call) (n : ℕ) → cause x ≡ suc n
-      → (answer x ≡ record { stop = Refused (suc n); rows = 0; probes = 0; area = totalOf 0; ticket = x .ticket }) × (after x ≡ x .table)
+      → (answer x ≡ record { stop = Refused (suc n); rows = 0; probes = 0; area = totalOf 0; ticket = x .ticket }) × (tableAfter x ≡ x .table)
       × (counted x ≡ x .counter)
   -- 01's number of each stop
   pub page-number : (stopNumber Ended ≡ 0) × (stopNumber Full ≡ 0) × (stopNumber Spent ≡ 0) × ((n : ℕ) → stopNumber (Refused n) ≡ n)
   -- an accepted one, by what is left at its cursor: `page-causes` has that something is
   pub page : (x : Call) (n : ℕ) → Typed (x .shape) → cause x ≡ 0 → let o = overlayAt x in
-      Due (o .sizes) (x .ticket .cursor) (drop n (o .walk)) → PageHolds o x (drop n (o .walk)) (answer x) (after x)
+      Due (o .sizes) (x .ticket .cursor) (drop n (o .walk)) → PageHolds o x (drop n (o .walk)) (answer x) (tableAfter x)
   -- 01's number and values of what a whole run answers
   pub run-values : (n rows probes : ℕ) (area ground : Total)
       → (runValues (Run.Refused n) ≡ record { number = n; rows = 0; probes = 0; area = totalOf 0; ground = totalOf 0 })

@@ -1,8 +1,12 @@
 // Cursors, tickets, pages and whole runs: the types of the calls' answers. What the calls answer is defined in specs/; what demand 3 says of lists of
 // calls is in the crate `demands`, the code of the calls in the crates `pager` and `runner`.
 
+use plan::MOST_SLOTS;
 use search::Stop;
 use totals::Total;
+
+// 2^57: more probes than any walk has, so a counter that a page call takes is below it.
+pub const MOST_PROBES: u64 = 144115188075855872;
 
 // Names the probe due next: the guard's layer, from 1, and place, how many slots are filled, the chosen places, first
 // slot first, unfilled ones 0, and the place to try. Or the walk has ended, and all else is 0.
@@ -11,7 +15,7 @@ pub struct Cursor {
     pub layer: u32,
     pub place: u32,
     pub filled: u32,
-    pub chosen: [u32; 5],
+    pub chosen: [u32; MOST_SLOTS],
     pub next: u32,
 }
 

@@ -15,7 +15,7 @@ use Rattle.geometry.proofs.Rectangles.{max-law, min-law, sides, point-meets}
 use Rattle.join.specs.Join.{cut}
 use Rattle.join.proofs.Join.{corner, point-some, cut-in}
 use Rattle.geometry.specs.Theorems.{Meet}
-use Rattle.pairs.specs.Theorems.{Holds}
+use Rattle.pairs.specs.Theorems.{HoldsPoint}
 
 -- two extents, a to x and b to y, meet where each begins before each ends
 extents : (a b x y : ℤ) → maxZ a b ≤ℤ minZ x y → (a ≤ℤ y) × (b ≤ℤ x) × (b ≤ℤ y)
@@ -62,7 +62,7 @@ point-pairs x y (_and_ p ps) = _then_ (all-map (λ b q. (x, y, (p, q))) ps) (poi
 pub meet-meets : (a b : Rect) → Meet a b → meets a b ≡ true
 meet-meets a b p = point-meets a b (p .0) (p .1) (p .2 .0) (p .2 .1)
 
-pub helly-holds : (rs : List Rect) → All Holds rs → ((x : ℤ) × (y : ℤ) × All (In x y) rs) ↔ Pairwise Meet rs
+pub helly-holds : (rs : List Rect) → All HoldsPoint rs → ((x : ℤ) × (y : ℤ) × All (In x y) rs) ↔ Pairwise Meet rs
 helly-holds rs some = (
   λ p. point-pairs (p .0) (p .1) (p .2),
   λ m. pairs-point (all-map (λ r p. point-some (p .0) (p .1) r (p .2)) some) (pairwise-map (λ a b p. meet-meets a b p) m),

@@ -19,7 +19,7 @@ use Rattle.join.proofs.Table.{within-long}
 use Rattle.pairs.specs.declared.PairAnswer.{PairAnswer}
 use Rattle.pairs.specs.declared.PairAnswer.the-variants.{Share, Pair}
 use Rattle.pairs.specs.PairCall.{firstPair}
-use Rattle.pairs.specs.Theorems.{chosen, IsPair, IsFirst}
+use Rattle.pairs.specs.Theorems.{chosen, IsPair, IsFirstPair}
 use Rattle.pairs.proofs.Boxes.{pairs-point, meet-meets}
 use Rattle.pairs.proofs.Firsts.{FirstAt, Found, none-apart, apart-in, found}
 
@@ -37,7 +37,7 @@ module _ {ls : List Layer} {row : List ℕ} (w : Within ls row) where
   chosen-all {P} h i l = subst P (chosen-at w i l) (all-getD nowhere h i (omega (arith, within-long w .0)))
 
   -- ---- the first pair in the list of rectangles is the first pair of layers
-  first-is : (i j : ℕ) → FirstAt nowhere (rects ls row) i j → IsFirst ls row i j
+  first-is : (i j : ℕ) → FirstAt nowhere (rects ls row) i j → IsFirstPair ls row i j
   first-is i j f = record {
     pair = record { order = f .order; there = there; apart = λ m. clash (meet-meets _ _ m) (sym (same i j (omega (arith, f .order, there)) there) ∙ f .apart) };
     first = λ a b p. later a b p (total a i) (total i a) (total j b);
@@ -68,7 +68,7 @@ pair-excludes {ls} {row} {other} {i} {j} p e f h = p .apart (h .x, h .y, (at i e
     at n q l = subst (λ (m : ℕ). In (h .x) (h .y) (rectOf ls (record { layer = n; place = m }))) q (chosen-all (h .within) (h .inside) n l)
 
 -- there is one first pair at most
-pub first-one : {ls : List Layer} {row : List ℕ} {i j a b : ℕ} → IsFirst ls row i j → IsFirst ls row a b → (i ≡ a) × (j ≡ b)
+pub first-one : {ls : List Layer} {row : List ℕ} {i j a b : ℕ} → IsFirstPair ls row i j → IsFirstPair ls row a b → (i ≡ a) × (j ≡ b)
 first-one {i = i} {j} {a} {b} f g = go (f .first a b (g .pair)) (g .first i j (f .pair))
   where
     go : (i < a) ⊎ ((i ≡ a) × (j ≤ b)) → (a < i) ⊎ ((a ≡ i) × (b ≤ j)) → (i ≡ a) × (j ≡ b)
@@ -80,7 +80,7 @@ first-one {i = i} {j} {a} {b} f g = go (f .first a b (g .pair)) (g .first i j (f
 -- ---- the answer
 pub data Outcome (ls : List Layer) (row : List ℕ) (v : PairAnswer) : Type 0 where
   shares : v ≡ Share → InJoin ls row → Outcome ls row v
-  clears : (i j : ℕ) → v ≡ Pair (suc i) (suc j) → IsFirst ls row i j → Outcome ls row v
+  clears : (i j : ℕ) → v ≡ Pair (suc i) (suc j) → IsFirstPair ls row i j → Outcome ls row v
 
 pub outcome : {ls : List Layer} {row : List ℕ} → Within ls row → All (λ r. nonempty r ≡ true) (rects ls row) → Outcome ls row (firstPair 1 (rects ls row))
 outcome {ls} {row} w s = go (found nowhere 1 (rects ls row))

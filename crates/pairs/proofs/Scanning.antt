@@ -16,13 +16,13 @@ use Rattle.plan.specs.Causes.{unless, onCause}
 use Rattle.plan.specs.Plan.{rectAt, layersOf, sizesOf, planCause, Sound, grown}
 use Rattle.join.specs.Join.{rects}
 use Rattle.rows.specs.RowCall.{fits}
-use Rattle.rows.specs.Layers.{Reached, rectsFrom}
+use Rattle.rows.specs.inner.Layers.{Reached, rectsFrom}
 use Rattle.rows.proofs.RowCall.{fits-long}
 use Rattle.rows.proofs.Layers.{reached-none, reached-next, rects-next, rects-end}
 use Rattle.pairs.specs.declared.PairAnswer.{PairAnswer}
 use Rattle.pairs.specs.declared.PairAnswer.the-variants.{Refused, Share, Pair}
 use Rattle.pairs.specs.PairCall.{apartAt, firstPair, pairCause, pairCall}
-use Rattle.pairs.specs.Told.{told}
+use Rattle.pairs.specs.inner.Told.{told}
 
 -- ---- one rectangle against those of the later layers: those before layer j meet it
 pub record Met (r : Rect) (sizes : List ℕ) (cells : List ℤ) (row : List ℕ) (before after start j : ℕ) : Type 0 where

@@ -24,7 +24,7 @@ use Rattle.rows.proofs.Layers.{rects-solid}
 use Rattle.pairs.specs.declared.PairAnswer.{PairAnswer}
 use Rattle.pairs.specs.declared.PairAnswer.the-variants.{Refused, Share, Pair}
 use Rattle.pairs.specs.PairCall.{firstPair, pairCause, pairCall, pairValues}
-use Rattle.pairs.specs.Theorems.{chosen, IsPair, IsFirst, PairHolds, Pairs}
+use Rattle.pairs.specs.Theorems.{chosen, IsPair, IsFirstPair, PairHolds, Pairs}
 use Rattle.pairs.proofs.Boxes.{helly-holds}
 use Rattle.pairs.proofs.Outcomes.{chosen-all, pair-excludes, first-one, Outcome, shares, clears, outcome}
 
@@ -70,13 +70,13 @@ module _ (s : Shape) (cells : List ℤ) (sound : Sound s cells) (row : List ℕ)
       go (shares e h) = (λ z. h, λ z. e)
       go (clears i j e f) = (λ z. absurd (no-shared i j z e), λ h. absurd (pair-excludes (f .pair) refl refl h))
 
-  first-pair-is : (i j : ℕ) → (answer ≡ Pair (suc i) (suc j)) ↔ IsFirst (layers s cells) row i j
+  first-pair-is : (i j : ℕ) → (answer ≡ Pair (suc i) (suc j)) ↔ IsFirstPair (layers s cells) row i j
   first-pair-is i j = go is
     where
-      go : Outcome (layers s cells) row answer → (answer ≡ Pair (suc i) (suc j)) ↔ IsFirst (layers s cells) row i j
+      go : Outcome (layers s cells) row answer → (answer ≡ Pair (suc i) (suc j)) ↔ IsFirstPair (layers s cells) row i j
       go (shares e h) = (λ z. absurd (no-shared i j e z), λ f. absurd (pair-excludes (f .pair) refl refl h))
       go (clears a b e f) = (
-        λ z. subst₂ (IsFirst (layers s cells) row) (omega (arith, ap (λ (v : PairAnswer). pairValues v .lower) (sym e ∙ z))) (omega (arith, ap (λ (v : PairAnswer). pairValues v .higher) (sym e ∙ z))) f,
+        λ z. subst₂ (IsFirstPair (layers s cells) row) (omega (arith, ap (λ (v : PairAnswer). pairValues v .lower) (sym e ∙ z))) (omega (arith, ap (λ (v : PairAnswer). pairValues v .higher) (sym e ∙ z))) f,
         λ g. let o = first-one f g in e ∙ ap₂ (λ (a b : ℕ). Pair (suc a) (suc b)) (o .0) (o .1),
       )
 

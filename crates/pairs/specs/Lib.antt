@@ -1,3 +1,3 @@
 pub mod PairCall
 pub mod Theorems
-pub mod Told
+pub mod inner

@@ -20,8 +20,8 @@ use Rattle.pairs.specs.declared.PairAnswer.the-variants.{Refused, Share,
 use Rattle.pairs.specs.PairCall.{pairCause, pairCall, pairValues}
 
 -- the rectangle holds a point
-abbrev pub Holds : Rect → Type 0
-Holds r = (x : ℤ) × (y : ℤ) × In x y r
+abbrev pub HoldsPoint : Rect → Type 0
+HoldsPoint r = (x : ℤ) × (y : ℤ) × In x y r
 
 -- ---- pairs of layers. Here layers are counted from 0
 -- the rectangle that a row names in layer i
@@ -35,7 +35,7 @@ pub record IsPair (ls : List Layer) (row : List ℕ) (i j : ℕ) : Type 0 where
   pub apart : Meet (chosen ls row i) (chosen ls row j) → ⊥
 
 -- 02: "the first pair of layers, by its lower layer and then its higher": none comes before it
-pub record IsFirst (ls : List Layer) (row : List ℕ) (i j : ℕ) : Type 0 where
+pub record IsFirstPair (ls : List Layer) (row : List ℕ) (i j : ℕ) : Type 0 where
   pub pair : IsPair ls row i j
   pub first : (a b : ℕ) → IsPair ls row a b → (i < a) ⊎ ((i ≡ a) × (j ≤ b))
 
@@ -45,7 +45,7 @@ pub record PairHolds (ls : List Layer) (row : List ℕ) (answer : PairAnswer) : 
   -- "either that they share a point": exactly when they do
   pub share : (answer ≡ Share) ↔ InJoin ls row
   -- "or the first pair of layers", told from 1: exactly when it is that
-  pub first : (i j : ℕ) → (answer ≡ Pair (suc i) (suc j)) ↔ IsFirst ls row i j
+  pub first : (i j : ℕ) → (answer ≡ Pair (suc i) (suc j)) ↔ IsFirstPair ls row i j
   -- it is one of the two
   pub either : (answer ≡ Share) ⊎ ((i : ℕ) × (j : ℕ) × (answer ≡ Pair (suc i) (suc j)))
   -- "Such a pair is there exactly when the combination has no common point"
@@ -54,7 +54,7 @@ pub record PairHolds (ls : List Layer) (row : List ℕ) (answer : PairAnswer) : 
   pub shows : (i j : ℕ) → IsPair ls row i j → (other : List ℕ) → getD other i 0 ≡ getD row i 0 → getD other j 0 ≡ getD row j 0
       → InJoin ls other → ⊥
   -- ... and no smaller part shows it: a rectangle alone has a point
-  pub alone : (i : ℕ) → i < length ls → Holds (chosen ls row i)
+  pub alone : (i : ℕ) → i < length ls → HoldsPoint (chosen ls row i)
 
 pub record PairCalls (s : Shape) (cells : List ℤ) (row : List ℕ) : Type 0 where
   -- the causes: a plan's, then 23, "not k places, or a place not in its layer"
@@ -64,7 +64,7 @@ pub record PairCalls (s : Shape) (cells : List ℤ) (row : List ℕ) : Type 0 wh
 
 pub record Pairs : Type 0 where
   -- rectangles that each hold a point have a common one exactly when each two of them meet, however many there are
-  pub helly : (rs : List Rect) → All Holds rs → ((x : ℤ) × (y : ℤ) × All (In x y) rs) ↔ Pairwise Meet rs
+  pub helly : (rs : List Rect) → All HoldsPoint rs → ((x : ℤ) × (y : ℤ) × All (In x y) rs) ↔ Pairwise Meet rs
   pub calls : (s : Shape) (cells : List ℤ) (row : List ℕ) → PairCalls s cells row
   -- the number and values of each answer; "A refusal returns its number and 0 for all else"
   pub share : pairValues Share ≡ record { number = 0; lower = 0; higher = 0 }

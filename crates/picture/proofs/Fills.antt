@@ -10,11 +10,11 @@ use lib.IntN.{ℤ, pos, negsuc}
 use borrow.Author.Tests.{ne-eqb}
 use lib.ListN.{length, getD, drop, length-append, drop-of-length-le}
 use lib.Seq.{drop-cons}
-use Rattle.lists.specs.Stores.{Put}
+use Rattle.lists.specs.inner.Stores.{Put}
 use Rattle.lists.proofs.Stores.{Left, left-all, left-put, left-none}
 use Rattle.decimal.specs.Numerals.{decimal, numeral}
 use Rattle.decimal.proofs.Numerals.{length-decimal, size-most}
-use Rattle.printing.specs.Parts.{FitsAt}
+use Rattle.printing.specs.inner.Parts.{FitsAt}
 use Rattle.printing.proofs.Puts.{room-left}
 use Rattle.picture.specs.Templates.{piece, later, fill}
 

@@ -8,17 +8,17 @@ use lib.IntN.{ℤ, pos}
 use lib.ListN.{length, getD, take, drop, drop-of-length-le}
 use lib.Seq.{drop-cons, drop-drop, length-take-le, getD-take}
 use Rattle.lists.specs.Lists.{sum}
-use Rattle.lists.specs.Stores.{Put}
+use Rattle.lists.specs.inner.Stores.{Put}
 use Rattle.lists.proofs.Stores.{Left, left-all, left-put, left-none}
 use Rattle.plan.specs.Plan.{layersOf}
 use Rattle.plan.proofs.Growing.{get-small, part-reach}
-use Rattle.printing.specs.Parts.{FitsAt}
+use Rattle.printing.specs.inner.Parts.{FitsAt}
 use Rattle.printing.proofs.Puts.{room-front, room-left}
 use Rattle.picture.specs.declared.Frame.{Frame}
 use Rattle.picture.specs.Templates.{fill}
 use Rattle.picture.specs.Texts.{openText, closeText}
 use Rattle.picture.specs.Pictures.{moved, legend, layerPart, layerParts}
-use Rattle.picture.specs.Parts.{LayerDrawable, LayersDrawable, shapesIn, layerIn}
+use Rattle.picture.specs.inner.Parts.{LayerDrawable, LayersDrawable, shapesIn, layerIn}
 
 -- ---- a layer
 module _ (f : Frame) (j m : ℕ) (cells : List ℤ) (n : ℕ) where

@@ -6,7 +6,7 @@ use Prim.Native.Nat.{ℕ, _+_, _-_, _≤_, _<_}
 use native.Mathlib.Omega.{arith}
 use lib.IntN.{ℤ, pos}
 use lib.ListN.{length, take, drop}
-use Rattle.lists.specs.Stores.{Put}
+use Rattle.lists.specs.inner.Stores.{Put}
 use Rattle.lists.proofs.Stores.{Left, left-all, left-put, left-none}
 use Rattle.geometry.specs.declared.Rect.{Rect}
 use Rattle.geometry.specs.declared.Kind.{Kind}
@@ -16,14 +16,14 @@ use Rattle.join.specs.Join.{commonIn, kindIn}
 use Rattle.rows.specs.declared.Ground as G
 use Rattle.rows.specs.declared.Sharing.{Sharing}
 use Rattle.rows.specs.declared.Sharing.the-variants.{Shared}
-use Rattle.rows.specs.Grounds.{groundOf}
+use Rattle.rows.specs.inner.Grounds.{groundOf}
 use Rattle.rows.specs.RowCall.{isRow}
 use Rattle.rows.specs.Tables.{rowsIn}
-use Rattle.rows.specs.TableRows.{TableRows}
+use Rattle.rows.specs.inner.TableRows.{TableRows}
 use Rattle.rows.proofs.Answers.{ground-some}
 use Rattle.rows.proofs.TableRows.{Ahead, none-read, rows-split, next-is-row, one-read, row-inside}
 use Rattle.printing.specs.Lines.{rowLine}
-use Rattle.printing.specs.Parts.{FitsAt}
+use Rattle.printing.specs.inner.Parts.{FitsAt}
 use Rattle.printing.proofs.Puts.{room-first, room-second, put-both, room-left}
 use Rattle.picture.specs.Templates.{fill}
 use Rattle.picture.specs.Texts.{groundText, edgeText, pointText, rowText}

@@ -7,7 +7,7 @@ use native.Mathlib.Omega.{arith}
 use lib.IntN.{ℤ}
 use lib.ListN.{length, take}
 use Rattle.lists.specs.Lists.{sum}
-use Rattle.lists.specs.Stores.{Put}
+use Rattle.lists.specs.inner.Stores.{Put}
 use Rattle.totals.specs.declared.Total.{Total}
 use Rattle.geometry.specs.declared.Rect.{Rect}
 use Rattle.plan.specs.declared.Shape.{Shape}
@@ -17,26 +17,26 @@ use Rattle.plan.proofs.Growing.{framed, growable}
 use Rattle.sweep.specs.Sweep.{sweepOrder}
 use Rattle.join.specs.Table.{planTable}
 use Rattle.rows.specs.Tables.{rowsIn}
-use Rattle.rows.specs.TableRows.{TableRows}
+use Rattle.rows.specs.inner.TableRows.{TableRows}
 use Rattle.rows.proofs.TableRows.{table-rows}
 use Rattle.paging.specs.declared.Run.{Run}
 use Rattle.paging.specs.declared.Run.the-variants.{Refused, Done}
 use Rattle.paging.specs.Calls.{runCause, runCall, runTable}
-use Rattle.printing.specs.Parts.{FitsAt}
+use Rattle.printing.specs.inner.Parts.{FitsAt}
 use Rattle.reporting.specs.Report.{runTableCells, runWorkCells, emptyTable}
-use Rattle.reporting.specs.Parts.{planCells}
+use Rattle.reporting.specs.inner.Parts.{planCells}
 use Rattle.reporting.proofs.Runs.{refusal}
 use Rattle.outcomes.specs.Outcomes.{Told, done, refused}
-use Rattle.outcomes.specs.Rooms.{Room, roomForAll}
+use Rattle.outcomes.specs.inner.Rooms.{Room, roomForAll}
 use Rattle.outcomes.proofs.Outcomes.{told-same, told-done}
-use Rattle.listing.specs.Parts.{Ran}
+use Rattle.listing.specs.inner.Parts.{Ran}
 use Rattle.listing.proofs.Runs.{same-cause, Finished, finished}
 use Rattle.picture.specs.declared.Frame.{Frame}
 use Rattle.picture.specs.Frames.{groundOf, frameOf}
 use Rattle.picture.specs.Templates.{fill}
 use Rattle.picture.specs.Texts.{headText, rowsText, tailText}
 use Rattle.picture.specs.Pictures.{layerParts, rowParts, moved, seen, scale, picture, pictureOf, planPicture}
-use Rattle.picture.specs.Parts.{LayersDrawable, bodyPart}
+use Rattle.picture.specs.inner.Parts.{LayersDrawable, bodyPart}
 use Rattle.picture.proofs.Lengths.{picture-few}
 
 -- the run's answer and its table

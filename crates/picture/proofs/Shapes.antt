@@ -7,17 +7,17 @@ use native.Mathlib.Numerals.{add-one}
 use lib.IntN.{ℤ, pos}
 use borrow.Author.Tests.{ne-eqb}
 use Rattle.lists.specs.Lists.{each}
-use Rattle.lists.specs.Stores.{Put}
+use Rattle.lists.specs.inner.Stores.{Put}
 use Rattle.lists.proofs.Stores.{Left, left-all, left-put, left-none}
 use Rattle.geometry.specs.declared.Rect.{Rect}
 use Rattle.geometry.specs.Rectangles.{grownBy}
 use Rattle.plan.specs.Plan.{rectAt}
-use Rattle.printing.specs.Parts.{FitsAt}
+use Rattle.printing.specs.inner.Parts.{FitsAt}
 use Rattle.printing.proofs.Puts.{room-left}
 use Rattle.picture.specs.Templates.{fill}
 use Rattle.picture.specs.Texts.{shapeText, grownText}
 use Rattle.picture.specs.Pictures.{corners, shapeAt}
-use Rattle.picture.specs.Parts.{Drawable, LayerDrawable, shapesIn}
+use Rattle.picture.specs.inner.Parts.{Drawable, LayerDrawable, shapesIn}
 
 -- where there is room for bytes, there is for the same by another name
 pub room-same : (buf : List ℕ) (at : ℕ) (xs ys : List ℕ) → FitsAt buf at xs → xs ≡ ys → FitsAt buf at ys

@@ -4,5 +4,5 @@ pub mod Markup
 pub mod Frames
 pub mod Pictures
 pub mod Theorems
-pub mod Parts
 pub mod Cases
+pub mod inner

@@ -4,14 +4,14 @@ use crate::frames::ground_of;
 use crate::whole::put_picture;
 use plan::MOST_CELLS;
 use plan::Shape;
-use planner::grow_plan;
+use plan_code::grow_plan;
 ghost use mathlib.Core.Path.{_≡_};
 ghost use lib.ListN.{length};
 ghost use Rattle.plan.specs.Plan.{grown, layersOf, sizesOf, layers, Sound};
-ghost use Rattle.lists.specs.Stores.{Put};
+ghost use Rattle.lists.specs.inner.Stores.{Put};
 ghost use Rattle.rows.specs.Tables.{rowsIn};
-ghost use Rattle.rows.specs.TableRows.{TableRows};
-ghost use Rattle.printing.specs.Parts.{FitsAt};
+ghost use Rattle.rows.specs.inner.TableRows.{TableRows};
+ghost use Rattle.printing.specs.inner.Parts.{FitsAt};
 ghost use Rattle.picture.specs.Frames.{groundOf, frameOf};
 ghost use Rattle.picture.specs.Pictures.{pictureOf};
 

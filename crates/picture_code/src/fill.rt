@@ -6,8 +6,8 @@ ghost use Prim.Native.Nat.{_+_, _≤_};
 ghost use lib.IntN.{natAbs};
 ghost use lib.ListN.{length, drop};
 ghost use Rattle.decimal.specs.Numerals.{numeral};
-ghost use Rattle.lists.specs.Stores.{Put};
-ghost use Rattle.printing.specs.Parts.{FitsAt};
+ghost use Rattle.lists.specs.inner.Stores.{Put};
+ghost use Rattle.printing.specs.inner.Parts.{FitsAt};
 ghost use Rattle.picture.specs.Templates.{piece, later, fill};
 
 // A number without its sign.

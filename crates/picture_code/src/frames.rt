@@ -1,17 +1,17 @@
 // The ground that a picture shows.
-use geometer::max_of;
-use geometer::min_of;
-use geometer::span;
 use geometry::Rect;
+use geometry_code::max_of;
+use geometry_code::min_of;
+use geometry_code::span;
 use picture::Frame;
-use planner::rect_at;
+use plan_code::rect_at;
 ghost use mathlib.Core.Path.{_≡_};
 ghost use Prim.Native.Nat.{_*_};
 ghost use lib.ListN.{length};
 ghost use Rattle.plan.specs.Plan.{count};
 ghost use Rattle.join.specs.Join.{noRect};
 ghost use Rattle.picture.specs.Frames.{around, groundOf, frameOf};
-ghost use Rattle.picture.specs.Parts.{Small};
+ghost use Rattle.picture.specs.inner.Parts.{Small};
 
 // The smallest rectangle around two.
 fn around_of(a: Rect, b: Rect) -> Rect

@@ -6,18 +6,18 @@ use crate::shapes::put_shapes;
 use crate::texts::close_text;
 use crate::texts::open_text;
 use picture::Frame;
-use planner::layer_cells;
+use plan_code::layer_cells;
 ghost use mathlib.Core.List.{_∷_, _++_};
 ghost use Prim.Native.Nat.{_+_, _≤_, _<_};
 ghost use lib.IntN.{pos};
 ghost use lib.ListN.{take};
-ghost use Rattle.lists.specs.Stores.{Put};
+ghost use Rattle.lists.specs.inner.Stores.{Put};
 ghost use Rattle.plan.specs.Plan.{layersOf};
-ghost use Rattle.printing.specs.Parts.{FitsAt};
+ghost use Rattle.printing.specs.inner.Parts.{FitsAt};
 ghost use Rattle.picture.specs.Templates.{fill};
 ghost use Rattle.picture.specs.Texts.{openText, closeText};
 ghost use Rattle.picture.specs.Pictures.{moved, legend, layerParts};
-ghost use Rattle.picture.specs.Parts.{Small, LayerDrawable, LayersDrawable, shapesIn, layerIn};
+ghost use Rattle.picture.specs.inner.Parts.{Small, LayerDrawable, LayersDrawable, shapesIn, layerIn};
 
 // The start of a layer; the place behind it.
 fn put_open(buf: &mut [u8], at: usize, frame: Frame, layer: u64) -> usize

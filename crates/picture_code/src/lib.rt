@@ -18,7 +18,7 @@ use paging::Run;
 use plan::MOST_CELLS;
 use plan::MOST_RECTS;
 use plan::Shape;
-use planner::count_of;
+use plan_code::count_of;
 use runner::run_all;
 ghost use mathlib.Core.Path.{_≡_};
 ghost use mathlib.Core.Option.{none};
@@ -27,10 +27,10 @@ ghost use Rattle.plan.specs.Limits.{mostCells, mostRects};
 ghost use Rattle.plan.specs.Plan.{grown, Sound};
 ghost use Rattle.sweep.specs.Sweep.{sweepOrder};
 ghost use Rattle.reporting.specs.Report.{runTableCells};
-ghost use Rattle.reporting.specs.Parts.{planCells};
+ghost use Rattle.reporting.specs.inner.Parts.{planCells};
 ghost use Rattle.outcomes.specs.Outcomes.{Told};
-ghost use Rattle.outcomes.specs.Rooms.{Room};
-ghost use Rattle.listing.specs.Parts.{Ready, Ran};
+ghost use Rattle.outcomes.specs.inner.Rooms.{Room};
+ghost use Rattle.listing.specs.inner.Parts.{Ready, Ran};
 ghost use Rattle.picture.specs.Pictures.{planPicture, pictureSaid};
 
 // The cells of the table that the run is made into, and of its work buffer.

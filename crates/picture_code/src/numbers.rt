@@ -6,7 +6,7 @@ ghost use mathlib.Core.List.{[], _∷_, _++_};
 ghost use Prim.Native.Nat.{_<_, _≤_};
 ghost use lib.IntN.{pos, negℤ};
 ghost use Rattle.picture.specs.Pictures.{corners, moved, legend};
-ghost use Rattle.picture.specs.Parts.{Small};
+ghost use Rattle.picture.specs.inner.Parts.{Small};
 
 // A coordinate.
 fn wide(z: i32) -> i64

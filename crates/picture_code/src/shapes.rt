@@ -3,14 +3,14 @@ use crate::fill::put_filled;
 use crate::numbers::shape_of;
 use crate::texts::grown_text;
 use crate::texts::shape_text;
-use geometer::grow;
 use geometry::Rect;
-use planner::rect_at;
+use geometry_code::grow;
+use plan_code::rect_at;
 ghost use Prim.Native.Nat.{_<_};
-ghost use Rattle.lists.specs.Stores.{Put};
-ghost use Rattle.printing.specs.Parts.{FitsAt};
+ghost use Rattle.lists.specs.inner.Stores.{Put};
+ghost use Rattle.printing.specs.inner.Parts.{FitsAt};
 ghost use Rattle.picture.specs.Pictures.{shapeAt};
-ghost use Rattle.picture.specs.Parts.{Drawable, LayerDrawable, shapesIn};
+ghost use Rattle.picture.specs.inner.Parts.{Drawable, LayerDrawable, shapesIn};
 
 // A rectangle, and the grown one where there is a margin; the place behind it.
 fn put_shape(buf: &mut [u8], at: usize, layer: u64, margin: u32, place: usize, r: Rect) -> usize

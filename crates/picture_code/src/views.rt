@@ -5,7 +5,7 @@ ghost use mathlib.Core.Path.{_≡_};
 ghost use Prim.Native.Nat.{_≤_};
 ghost use Rattle.picture.specs.Frames.{longer, barOf};
 ghost use Rattle.picture.specs.Pictures.{seen, scale};
-ghost use Rattle.picture.specs.Parts.{Small};
+ghost use Rattle.picture.specs.inner.Parts.{Small};
 
 // The longer of two lengths.
 fn longer_of(a: u64, b: u64) -> u64

@@ -12,15 +12,15 @@ use picture::Frame;
 use plan::Shape;
 ghost use mathlib.Core.List.{_++_};
 ghost use lib.ListN.{length, take};
-ghost use Rattle.lists.specs.Stores.{Put};
+ghost use Rattle.lists.specs.inner.Stores.{Put};
 ghost use Rattle.plan.specs.Plan.{layersOf, sizesOf};
 ghost use Rattle.rows.specs.Tables.{rowsIn};
-ghost use Rattle.rows.specs.TableRows.{TableRows};
-ghost use Rattle.printing.specs.Parts.{FitsAt};
+ghost use Rattle.rows.specs.inner.TableRows.{TableRows};
+ghost use Rattle.printing.specs.inner.Parts.{FitsAt};
 ghost use Rattle.picture.specs.Templates.{fill};
 ghost use Rattle.picture.specs.Texts.{headText, rowsText, tailText};
 ghost use Rattle.picture.specs.Pictures.{moved, seen, scale, layerParts, rowParts, pictureOf};
-ghost use Rattle.picture.specs.Parts.{Small, LayersDrawable, topPart, bodyPart};
+ghost use Rattle.picture.specs.inner.Parts.{Small, LayersDrawable, topPart, bodyPart};
 
 // The head; the place behind it.
 fn put_head(buf: &mut [u8], at: usize, frame: Frame) -> usize

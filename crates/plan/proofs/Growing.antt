@@ -2,14 +2,14 @@
 use mathlib.Core.Path.{_≡_, refl, sym, ap, ap₂, _∙_, subst}
 use mathlib.Core.List.{List, [], _∷_, _++_}
 use mathlib.Core.Bool.{true}
-use Prim.Native.Nat.{ℕ, zero, suc, _+_, _-_, _*_, _/_, _≤_, _<_, zero-le}
+use Prim.Native.Nat.{ℕ, zero, suc, _+_, _-_, _*_, _≤_, _<_, zero-le}
 use native.Mathlib.Omega.{arith}
 use native.Mathlib.Numerals.{add-one}
 use lib.IntN.{ℤ, pos}
 use lib.ListN.{length, getD, take, drop, length-append, length-drop, take-append-drop, drop-of-length-le}
 use lib.Seq.{drop-cons, drop-drop, length-take-le, take-append-seam, drop-append-seam}
 use Rattle.lists.specs.Lists.{All, none-left, _and_, sum}
-use Rattle.lists.specs.Stores.{Put}
+use Rattle.lists.specs.inner.Stores.{Put}
 use Rattle.lists.proofs.Lists.{all-take}
 use Rattle.lists.proofs.Stores.{Left, left-all, left-put, left-none, left-room, put-start, put-length}
 use Rattle.geometry.specs.declared.Rect.{Rect}
@@ -20,7 +20,7 @@ use Rattle.plan.specs.Plan.{rectAt, rectCells, count, Layer, layersOf, s
 use Rattle.plan.specs.Spots.{spotOf, rectOf}
 use Rattle.plan.specs.Theorems.{Grows}
 use Rattle.plan.specs.Frames.{Framed}
-use Rattle.plan.specs.Growth.{InReach, Growable, Grown}
+use Rattle.plan.specs.inner.Growth.{InReach, Growable, Grown}
 use Rattle.plan.proofs.Plan.{checked, front-sum, count-is, fit-small, few}
 use Rattle.plan.proofs.Spots.{rect-number, rect-take, rect-drop, size-of}
 
@@ -283,9 +283,3 @@ module _ (s : Shape) (cells : List ℤ) (h : Sound s cells) where
 module _ (s : Shape) (cells run : List ℤ) (g : Grown s cells run) where
   pub part-long : length cells ≡ length (take (length cells) run)
   part-long = sym (length-take-le (length cells) run (g .fits))
-
-  pub part-count : count (take (length cells) run) ≡ count cells
-  part-count = ap (λ (n : ℕ). n / 4) (sym part-long)
-
-  pub part-framed : Sound s cells → (s .k ≤ length (s .sizes)) × Framed (sizesOf s) (take (length cells) run)
-  part-framed h = let f = framed s cells h in (f .0, subst (Framed (sizesOf s)) (sym (g .is)) (f .1))

@@ -103,6 +103,11 @@ summed-more ns n j s h b =
 pub summed-end : (ns : List ℕ) (n j : ℕ) → Summed ns n j → length ns ≤ j → n ≡ sum ns
 summed-end ns n j s h = let e = ap sum (drop-of-length-le ns h) in omega (arith, s .same)
 
+-- sizes of 32 bits
+pub sum-most : (ns : List ℕ) → ((j : ℕ) → getD ns j 0 ≤ 4294967295) → sum ns ≤ 4294967295 * length ns
+sum-most [] h = omega arith
+sum-most (n ∷ ns) h = omega (arith, h 0, sum-most ns (λ j. h (suc j)))
+
 -- ---- the causes
 -- of a shape
 module _ (s : Shape) where

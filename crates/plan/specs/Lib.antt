@@ -4,4 +4,4 @@ pub mod Plan
 pub mod Spots
 pub mod Theorems
 pub mod Frames
-pub mod Growth
+pub mod inner

@@ -1,8 +1,12 @@
-// A plan: its shape and the numbers that bound it. What a plan, its layers and its causes are is defined in specs/; the code is in the crate `planner`.
+// A plan: its shape and the numbers that bound it. What a plan, its layers and its causes are is defined in specs/; the code is in the crate `plan_code`.
 
-// The most layers that a plan has, the most rectangles of a layer, and of a plan, and the cells of these.
+// The most layers that a plan has.
 pub const MOST_LAYERS: usize = 6;
 
+// The most slots of a guard: all layers but its own.
+pub const MOST_SLOTS: usize = MOST_LAYERS - 1;
+
+// The most rectangles of a layer, and of a plan, and the cells of these.
 pub const MOST_SIZE: u32 = 512;
 
 pub const MOST_RECTS: usize = 3072;

@@ -4,10 +4,10 @@ use Prim.Native.Nat.{ℕ, _+_, _≤_, _<_}
 use native.Mathlib.Omega.{arith}
 use lib.ListN.{length, getD, drop, drop-of-length-le}
 use Rattle.decimal.specs.Numerals.{decimal}
-use Rattle.lists.specs.Stores.{Put}
+use Rattle.lists.specs.inner.Stores.{Put}
 use Rattle.lists.proofs.Stores.{Left, left-all, left-put, left-none}
 use Rattle.decimal.proofs.Places.{at-byte}
-use Rattle.printing.specs.Parts.{tabbed, FitsAt}
+use Rattle.printing.specs.inner.Parts.{tabbed, FitsAt}
 use Rattle.printing.proofs.Puts.{room-left}
 
 module _ (first : List ℕ) (from : ℕ) (ns : List ℕ) where

@@ -14,7 +14,7 @@ use Rattle.decimal.proofs.Numerals.{length-decimal, size-most}
 use Rattle.plan.specs.Plan.{Layer}
 use Rattle.rows.specs.Tables.{cellsOf}
 use Rattle.printing.specs.Lines.{fieldsEnd, ROW, rowFields, lineOf, rowLine, rowLines, hundredths, squareMetres, totalLine, refusedLine}
-use Rattle.printing.specs.Parts.{tabbed}
+use Rattle.printing.specs.inner.Parts.{tabbed}
 
 -- ---- parts
 numbers-first : (ns : List ℕ) (fs : List (List ℕ)) → fieldsEnd (map decimal ns ++ fs) ≡ tabbed ns ++ fieldsEnd fs

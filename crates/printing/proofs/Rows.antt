@@ -14,16 +14,16 @@ use Rattle.plan.proofs.Spots.{layers-long}
 use Rattle.rows.specs.declared.Ground.{Ground}
 use Rattle.rows.specs.declared.Sharing.{Sharing}
 use Rattle.rows.specs.declared.Sharing.the-variants.{Nothing, Shared}
-use Rattle.rows.specs.Grounds.{groundOf}
+use Rattle.rows.specs.inner.Grounds.{groundOf}
 use Rattle.rows.proofs.Answers.{ground-none, ground-small, ground-layer, ground-area, ground-kind}
 use Rattle.rows.specs.RowCall.{isRow}
 use Rattle.rows.specs.Tables.{rowsIn}
-use Rattle.rows.specs.TableRows.{TableRows}
+use Rattle.rows.specs.inner.TableRows.{TableRows}
 use Rattle.rows.proofs.TableRows.{Ahead, none-read, rows-split, next-is-row, one-read, row-inside}
-use Rattle.lists.specs.Stores.{Put}
+use Rattle.lists.specs.inner.Stores.{Put}
 use Rattle.lists.proofs.Stores.{Left, left-all, left-put, left-none}
 use Rattle.printing.specs.Lines.{lineOf, ROW, rowFields, rowLine, rowLines}
-use Rattle.printing.specs.Parts.{FitsAt}
+use Rattle.printing.specs.inner.Parts.{FitsAt}
 use Rattle.printing.proofs.Puts.{room-left}
 
 -- ---- the ground of a row of the join

@@ -20,7 +20,7 @@ use Rattle.join.specs.Join.{rects, areaIn, kindIn, guardLayer}
 use Rattle.ground.proofs.Union.{union-old}
 use Rattle.ground.proofs.Tables.{table-held}
 use Rattle.printing.specs.Lines.{ROW, TOTAL, lineOf, rowLine, rowLines, hundredths, squareMetres, totalLine}
-use Rattle.printing.specs.Parts.{tabbed}
+use Rattle.printing.specs.inner.Parts.{tabbed}
 use Rattle.printing.specs.Theorems.{RowsEnd, Rounds, rowGrounds, OldTotal, OldTotals}
 use Rattle.printing.proofs.Lines.{row-parts, decimals-of, metres-are}
 

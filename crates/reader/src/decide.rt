@@ -1,9 +1,10 @@
 // The reader's first pass: the causes 9, 10 and 11.
-use geometer::in_range;
 use geometry::Rect;
+use geometry_code::in_range;
 use lexer::read_line;
 use line::Found;
 use line::Line;
+use plan::MOST_LAYERS;
 use plan::MOST_MARGIN;
 use plan::MOST_SIZE;
 use plan::Shape;
@@ -15,10 +16,12 @@ ghost use Prim.Native.Nat.{_≤_};
 ghost use lib.ListN.{length, drop};
 ghost use Rattle.line.specs.declared.Line.the-variants.{Plan};
 ghost use Rattle.line.specs.Places.{Line-at};
-ghost use Rattle.text.specs.Filling.{refusedBy, Decided};
-ghost use Rattle.text.specs.Counting.{noneYet, unformed, spoilt, upTo, layerRight, addLayer, addRect, addLine, tallyFrom, Few, layersRight, tallyCause};
+ghost use Rattle.text.specs.inner.Filling.{refusedBy, Decided};
+ghost use Rattle.text.specs.inner.Counting.{noneYet, unformed, spoilt, upTo, layerRight, addLayer, addRect, addLine, tallyFrom, Few, layersRight, tallyCause};
 
-// The largest size and the largest margin of a layer.
+// The most layers of a plan, and the largest size and the largest margin of one.
+const DEEPEST: i32 = MOST_LAYERS as i32;
+
 const LARGEST: i32 = MOST_SIZE as i32;
 
 const WIDEST: i32 = MOST_MARGIN as i32;
@@ -33,8 +36,8 @@ fn none_yet() -> Tally
         due: 0,
         layers: 0,
         rects: 0,
-        sizes: [0u32; 6],
-        margins: [0u32; 6],
+        sizes: [0u32; MOST_LAYERS],
+        margins: [0u32; MOST_LAYERS],
     }
 }
 
@@ -48,8 +51,8 @@ fn not_formed() -> Tally
         due: 0,
         layers: 0,
         rects: 0,
-        sizes: [0u32; 6],
-        margins: [0u32; 6],
+        sizes: [0u32; MOST_LAYERS],
+        margins: [0u32; MOST_LAYERS],
     }
 }
 
@@ -79,7 +82,7 @@ fn layer_right(t: Tally, n: i32, margin: i32) -> bool
     if t.due != 0 {
         return false;
     }
-    if t.layers >= 6 {
+    if t.layers >= MOST_LAYERS {
         return false;
     }
     if !up_to(LARGEST, n) {
@@ -178,7 +181,7 @@ fn layers_right(k: i32, n: usize) -> bool
     ensures { λ r. ⌜ r ≡ layersRight k n ⌝ }
 {
     if 2 <= k {
-        if k <= 6 {
+        if k <= DEEPEST {
             return (k as usize) == n;
         }
     }
@@ -191,8 +194,8 @@ fn refuse(cause: u32) -> Decision
 {
     let shape = Shape {
         k: 0,
-        sizes: [0u32; 6],
-        margins: [0u32; 6],
+        sizes: [0u32; MOST_LAYERS],
+        margins: [0u32; MOST_LAYERS],
     };
     let reading = Reading {
         number: cause,

@@ -2,14 +2,14 @@
 use lexer::read_line;
 use line::Found;
 use line::Line;
-use planner::put_rect;
+use plan_code::put_rect;
 ghost use mathlib.Core.List.{[], _∷_};
 ghost use Prim.Native.Nat.{_+_, _≤_};
 ghost use lib.ListN.{length, drop};
-ghost use Rattle.lists.specs.Stores.{Put};
+ghost use Rattle.lists.specs.inner.Stores.{Put};
 ghost use Rattle.line.specs.declared.Line.the-variants.{Rectangle};
 ghost use Rattle.text.specs.Plans.{cellsIn};
-ghost use Rattle.text.specs.Filling.{restCells, LinesFit};
+ghost use Rattle.text.specs.inner.Filling.{restCells, LinesFit};
 
 // The cells that a line gives, from a place on; the place behind them.
 fn put_line(cells: &mut [i32], i: usize, line: Line) -> usize

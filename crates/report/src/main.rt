@@ -1,7 +1,7 @@
 // The report program (01, "The report"): reads a text, has the report on it made, and writes that.
 use libc::STDIN_FILENO;
 use libc::STDOUT_FILENO;
-use reporter::report;
+use reporting_code::report;
 ghost use mathlib.Core.Path.{_≡_};
 ghost use Prim.Native.Nat.{_≤_};
 ghost use lib.ListN.{length, take, replicate};

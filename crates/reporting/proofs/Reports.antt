@@ -25,10 +25,10 @@ use Rattle.paging.proofs.Overlays.{lawful}
 use Rattle.sweep.proofs.Theorems.{order-passes}
 use Rattle.paging.proofs.Runs.{run-holds, run-passed}
 use Rattle.printing.specs.Lines.{rowLines, totalLine, refusedLine}
-use Rattle.printing.specs.Parts.{FitsAt}
+use Rattle.printing.specs.inner.Parts.{FitsAt}
 use Rattle.printing.proofs.Lines.{rows-few, total-few, refused-few}
 use Rattle.reporting.specs.Report.{runTableCells, runWorkCells, emptyTable, tableReport, roomForAny}
-use Rattle.reporting.specs.Parts.{planCells, Lent, planCause, planReport}
+use Rattle.reporting.specs.inner.Parts.{planCells, Lent, planCause, planReport}
 use Rattle.paging.specs.Overlays.{overlay}
 
 pub empty-long : length emptyTable ≡ runTableCells

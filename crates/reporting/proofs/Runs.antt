@@ -26,13 +26,13 @@ use Rattle.rows.specs.Tables.{rowsIn}
 use Rattle.sweep.proofs.Theorems.{order-passes}
 use Rattle.paging.proofs.Runs.{run-holds, run-passed}
 use Rattle.printing.specs.Lines.{rowLines, totalLine, refusedLine}
-use Rattle.rows.specs.TableRows.{TableRows}
+use Rattle.rows.specs.inner.TableRows.{TableRows}
 use Rattle.rows.proofs.TableRows.{table-rows}
-use Rattle.printing.specs.Parts.{FitsAt}
-use Rattle.lists.specs.Stores.{Put}
+use Rattle.printing.specs.inner.Parts.{FitsAt}
+use Rattle.lists.specs.inner.Stores.{Put}
 use Rattle.printing.proofs.Puts.{put-same}
 use Rattle.reporting.specs.Report.{runTableCells, runWorkCells, emptyTable, tableReport, roomForAny}
-use Rattle.reporting.specs.Parts.{RanInto, planCause, planReport, Printed}
+use Rattle.reporting.specs.inner.Parts.{RanInto, planCause, planReport, Printed}
 use Rattle.reporting.proofs.Reports.{same-cause, lines-fit}
 
 -- ---- the whole run's answers

@@ -14,13 +14,13 @@ use Rattle.plan.specs.Limits.{mostCells}
 use Rattle.text.specs.declared.Reading.{Reading}
 use Rattle.text.specs.Reader.{readCause, textShape, textCells, readAnswer, cellsAfter}
 use Rattle.text.proofs.Theorems.{of-plan}
-use Rattle.lists.specs.Stores.{Put}
+use Rattle.lists.specs.inner.Stores.{Put}
 use Rattle.lists.proofs.Stores.{put-start, put-length}
 use Rattle.printing.specs.Lines.{refusedLine}
 use Rattle.printing.proofs.Lines.{refused-few}
 use Rattle.reporting.specs.declared.Printout.{Printout}
 use Rattle.reporting.specs.Report.{reportOf, reportCause, roomForAny, outAfter}
-use Rattle.reporting.specs.Parts.{planCells, Lent, planCause, planReport, Printed}
+use Rattle.reporting.specs.inner.Parts.{planCells, Lent, planCause, planReport, Printed}
 use Rattle.reporting.proofs.Reports.{plan-longest}
 
 pub long-text : (t : List ℕ) → 65536 < length t → reportOf t ≡ refusedLine 13

@@ -1,3 +1,3 @@
 pub mod Report
-pub mod Parts
 pub mod Theorems
+pub mod inner

@@ -11,7 +11,7 @@ use Rattle.paging.specs.Cursors.{resume}
 use Rattle.paging.specs.Pages.{room}
 use Rattle.paging.specs.Calls.{pageCall}
 use Rattle.paging.specs.Inner.{pageCallOn}
-use Rattle.paging.specs.Theorems.{Call, overlayAt, cause, answer, after, counted}
+use Rattle.paging.specs.Theorems.{Call, overlayAt, cause, answer, tableAfter, counted}
 use Rattle.paging.proofs.Theorems.{answers, page-left}
 
 module _ (x : Call) where
@@ -25,10 +25,10 @@ module _ (x : Call) where
       go (suc n) = omega arith
 
   module _ (typed : Typed (x .shape)) where
-    pub table-long : length (after x) ≡ length (x .table)
+    pub table-long : length (tableAfter x) ≡ length (x .table)
     table-long = go (cause x) refl
       where
-        go : (n : ℕ) → cause x ≡ n → length (after x) ≡ length (x .table)
+        go : (n : ℕ) → cause x ≡ n → length (tableAfter x) ≡ length (x .table)
         go zero e = page-left x typed e .2 .long
         go (suc n) e = ap length (answers .page-refused x n e .1)
 

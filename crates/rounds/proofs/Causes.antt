@@ -22,7 +22,7 @@ use Rattle.paging.specs.Overlays.{overlay}
 use Rattle.paging.specs.Calls.{pageCause}
 use Rattle.paging.specs.Theorems.{Good, Current}
 use Rattle.paging.proofs.Causes.{PageCauses, page-told}
-use Rattle.rounds.specs.Rounds.{Request, ticketAt, counterAt, fits, clientsCause, roundCause}
+use Rattle.rounds.specs.Rounds.{Request, ticketAt, counterAt, fitsRound, clientsCause, roundCause}
 use Rattle.rounds.specs.Theorems.{callOf, ClientChecks, InBounds, RoundChecks}
 
 -- ---- 22
@@ -36,8 +36,8 @@ pub record Fitting (m first budget records : ℕ) : Type 0 where
   pub one-each : records ≡ m
 
 module _ (m first budget records : ℕ) where
-  pub fits-yes : fits m first budget records ≡ true → Fitting m first budget records
-  unfolding fits
+  pub fits-yes : fitsRound m first budget records ≡ true → Fitting m first budget records
+  unfolding fitsRound
   fits-yes e =
       let a = both _ _ e in
       let b = both _ _ (a .1) in
@@ -46,8 +46,8 @@ module _ (m first budget records : ℕ) where
       let f = both _ _ (d .1) in
       record { some = leb-true 1 m (a .0); few = leb-true m 16 (b .0); from = leb-true 1 first (c .0); to = leb-true first m (d .0); low = leb-true budget 4294967295 (f .0); one-each = eqb-true records m (f .1) }
 
-  pub yes-fits : Fitting m first budget records → fits m first budget records ≡ true
-  unfolding fits
+  pub yes-fits : Fitting m first budget records → fitsRound m first budget records ≡ true
+  unfolding fitsRound
   yes-fits h = rw (le-leb 1 m (h .some), le-leb m 16 (h .few), le-leb 1 first (h .from), le-leb first m (h .to), le-leb budget 4294967295 (h .low), eq-eqb records m (h .one-each))
 
 -- ---- all causes
@@ -60,10 +60,10 @@ module _ (q : Request) where
   ordered = orderCause (q .shape) (q .cells) (q .order)
 
   abbrev bounded : ℕ
-  bounded = unless (fits (q .clients) (q .first) (q .budget) (length (q .counters))) 22
+  bounded = unless (fitsRound (q .clients) (q .first) (q .budget) (length (q .counters))) 22
 
   -- what 22 tells
-  bounds-tell : Tells (InBounds q) (fits (q .clients) (q .first) (q .budget) (length (q .counters)))
+  bounds-tell : Tells (InBounds q) (fitsRound (q .clients) (q .first) (q .budget) (length (q .counters)))
   bounds-tell =
       tells _ (λ e. let f = fits-yes _ _ _ _ e in (f .some, f .few, f .from, f .to, f .low, f .one-each))
       (λ h. yes-fits _ _ _ _ (record { some = h .0; few = h .1; from = h .2; to = h .3; low = h .4; one-each = h .5 }))

@@ -29,7 +29,7 @@ use Rattle.search.specs.Traversal.{Probe}
 use Rattle.plan.specs.Causes.{onCause}
 use Rattle.paging.specs.Calls.{freshCause, freshCall, freshCounter, refusedPage}
 use Rattle.paging.specs.Pages.{room}
-use Rattle.paging.specs.Theorems.{Call, cause, answer, after, PageHolds}
+use Rattle.paging.specs.Theorems.{Call, cause, answer, tableAfter, PageHolds}
 use Rattle.demands.specs.Theorems.{OneRun, handed, allowing}
 use Rattle.rows.specs.Tables.{rowsIn}
 use Rattle.demands.proofs.Courses.{Course, begun, advanced, EachOf, each-next, begun-has, course-counter-is}
@@ -40,7 +40,7 @@ use Rattle.rounds.specs.declared.Round.{Round}
 use Rattle.rounds.specs.Shares.{clientAt, turnOf, leftBehind}
 use Rattle.rounds.specs.Shares as Shares
 use Rattle.rounds.specs.Rounds.{Request, ticketAt, counterAt, partSize, partAt, roundCause, probesOf, budgetAt, pageAt, countedAt, filledAt, answerAt, idlePage, roundCall, roundCounters, roundTable}
-use Rattle.rounds.specs.Theorems.{callWith, callOf, pageOf, partOf, rowsFor, turn, Follows, Turns, ClientHolds, RoundHolds, RoundRefused, serving, roomy, callsOf, ListHolds, RoundsHold}
+use Rattle.rounds.specs.Theorems.{callWith, callOf, clientPage, partOf, rowsFor, turn, NextClient, Turns, ClientHolds, RoundHolds, RoundRefused, serving, roomy, callsOf, ListHolds, RoundsHold}
 use Rattle.rounds.proofs.Shares.{after-last, after-next, client-from, client-to, turn-client, client-turn, turn-below, share-offered, left-done, all-in-turn, total-parts}
 use Rattle.rounds.proofs.Parts.{each-within, each-long, part-is, rest-is, cut-long, parts-within}
 use Rattle.rounds.proofs.Calls.{probes-few, table-long, counter-long}
@@ -77,15 +77,15 @@ module _ (q : Request) (typed : Typed (q .shape)) (e : roundCause q ≡ 0) where
   pages-are = rw e
 
   -- the page of client t
-  page-at : (t : ℕ) → 1 ≤ t → t ≤ 16 → pageOf q t ≡ answerAt q t
+  page-at : (t : ℕ) → 1 ≤ t → t ≤ 16 → clientPage q t ≡ answerAt q t
   page-at t a b =
       let z : 1 + (t - 1) ≡ t = omega arith in
       ap (λ (l : List Page). getD l (t - 1) (idlePage (record { cursor = endedCursor; count = 0 }))) pages-are ∙ getD-upto (answerAt q) 1 16 (t - 1) _ (omega arith) ∙ ap (answerAt q) z
 
-  page-of : (t : ℕ) → 1 ≤ t → t ≤ q .clients → pageOf q t ≡ pageAt q t
+  page-of : (t : ℕ) → 1 ≤ t → t ≤ q .clients → clientPage q t ≡ pageAt q t
   page-of t a b = page-at t a (omega (arith, acc .fit .few)) ∙ rw (le-leb t (q .clients) b)
 
-  page-past : (t : ℕ) → q .clients < t → t ≤ 16 → pageOf q t ≡ idlePage (ticketAt q t)
+  page-past : (t : ℕ) → q .clients < t → t ≤ 16 → clientPage q t ≡ idlePage (ticketAt q t)
   page-past t a b = page-at t (omega arith) b ∙ rw (lt-leb t (q .clients) a)
 
   -- no page call does more than it is offered
@@ -102,7 +102,7 @@ module _ (q : Request) (typed : Typed (q .shape)) (e : roundCause q ≡ 0) where
   budget-at i h = ap (λ (j : ℕ). left j / (q .clients - j)) (turn-client (q .clients) (q .first) from to i h)
 
   -- the probes of the client in turn i
-  probes-at : (i : ℕ) → i < q .clients → pageOf q (clientAt (q .clients) (q .first) i) .probes ≡ probesOf q (clientAt (q .clients) (q .first) i) (left i / (q .clients - i))
+  probes-at : (i : ℕ) → i < q .clients → clientPage q (clientAt (q .clients) (q .first) i) .probes ≡ probesOf q (clientAt (q .clients) (q .first) i) (left i / (q .clients - i))
   unfolding probesOf
   probes-at i h =
       let c = clientAt (q .clients) (q .first) i in
@@ -110,15 +110,15 @@ module _ (q : Request) (typed : Typed (q .shape)) (e : roundCause q ≡ 0) where
 
   -- the probes of the first i clients that are served
   abbrev spent : (i : ℕ) → ℕ
-  spent i = sum (map (λ j. pageOf q (turn q j) .probes) (numbers i))
+  spent i = sum (map (λ j. clientPage q (turn q j) .probes) (numbers i))
 
   spent-is : (i : ℕ) → i ≤ q .clients → left i + spent i ≡ q .budget
   unfolding left
   spent-is i h =
-      let same = map-same (λ j. pageOf q (clientAt (q .clients) (q .first) j) .probes) (λ j. probesOf q (clientAt (q .clients) (q .first) j) (left j / (q .clients - j))) (all-map (λ j b. probes-at j (omega arith)) (numbers-below i)) in
+      let same = map-same (λ j. clientPage q (clientAt (q .clients) (q .first) j) .probes) (λ j. probesOf q (clientAt (q .clients) (q .first) j) (left j / (q .clients - j))) (all-map (λ j b. probes-at j (omega arith)) (numbers-below i)) in
       ap (λ (l : List ℕ). left i + sum l) same ∙ left-done (probesOf q) few (q .clients) (q .first) (q .budget) i h
 
-  next-is : (t : ℕ) → Follows q t (Shares.after (q .clients) t)
+  next-is : (t : ℕ) → NextClient q t (Shares.after (q .clients) t)
   next-is t = (after-last (q .clients) t, λ h. after-next (q .clients) t h ∙ sym (add-one t))
 
   turns : Turns q
@@ -161,7 +161,7 @@ module _ (q : Request) (typed : Typed (q .shape)) (e : roundCause q ≡ 0) where
   parts-long : (t : ℕ) → 1 ≤ t → t ≤ q .clients → length (filledAt q t) ≡ partSize q
   parts-long t a b = table-long (callOf q t) typed ∙ its-part t a b
 
-  part-filled : (t : ℕ) → 1 ≤ t → t ≤ q .clients → partOf q t (roundTable q) ≡ after (callOf q t)
+  part-filled : (t : ℕ) → 1 ≤ t → t ≤ q .clients → partOf q t (roundTable q) ≡ tableAfter (callOf q t)
   part-filled t a b = ap (partOf q t) table-is ∙ part-is (partSize q) (q .clients) (filledAt q) (drop (q .clients * partSize q) (q .table)) parts-long t a b
 
   client-holds : (t : ℕ) → 1 ≤ t → t ≤ q .clients → ClientHolds q t
@@ -184,24 +184,24 @@ module _ (q : Request) (typed : Typed (q .shape)) (e : roundCause q ≡ 0) where
       passes : cause (callOf q t) ≡ 0
       passes = acc .each-passes t a b
 
-      share : {S : Type 0} {o : Overlay S} {w : List (Probe S)} → PageHolds o (callOf q t) w (answer (callOf q t)) (after (callOf q t))
-          → (pageOf q t .stop ≡ Ended) ⊎ ((pageOf q t .stop ≡ Full) ⊎ (q .budget / q .clients ≤ pageOf q t .probes))
+      share : {S : Type 0} {o : Overlay S} {w : List (Probe S)} → PageHolds o (callOf q t) w (answer (callOf q t)) (tableAfter (callOf q t))
+          → (clientPage q t .stop ≡ Ended) ⊎ ((clientPage q t .stop ≡ Full) ⊎ (q .budget / q .clients ≤ clientPage q t .probes))
       share h =
           let stop = ap (λ (p : Page). p .stop) (page-of t a b) in
           let probes = ap (λ (p : Page). p .probes) (page-of t a b) in
           ⊎-elim (λ k. inl (stop ∙ k .0)) (⊎-elim (λ k. inr (inl (stop ∙ k .0))) (λ k. inr (inr (omega (arith, probes, k .3, its-share t a b))))) (h .stops)
 
-      rows : partOf q t (roundTable q) ≡ after (callOf q t)
+      rows : partOf q t (roundTable q) ≡ tableAfter (callOf q t)
       rows = part-filled t a b
 
       alone : (table : List ℕ) → length table ≡ length (partAt q t)
-          → (answer (callWith q t table) ≡ pageOf q t) × (rowsIn (q .shape .k) (pageOf q t .rows) (after (callWith q t table)) ≡ rowsFor q t)
+          → (answer (callWith q t table) ≡ clientPage q t) × (rowsIn (q .shape .k) (clientPage q t .rows) (tableAfter (callWith q t table)) ≡ rowsFor q t)
       alone table long =
           let p = page-of t a b in
           let r = rows-alone (callOf q t) table long typed passes in (
             answer-alone (callOf q t) table long ∙ sym p,
-            subst (λ (n : ℕ). rowsIn (q .shape .k) n (after (callWith q t table)) ≡ rowsIn (q .shape .k) n (after (callOf q t))) (sym (ap (λ (g : Page). g .rows) p)) r
-                ∙ sym (ap (rowsIn (q .shape .k) (pageOf q t .rows)) rows),
+            subst (λ (n : ℕ). rowsIn (q .shape .k) n (tableAfter (callWith q t table)) ≡ rowsIn (q .shape .k) n (tableAfter (callOf q t))) (sym (ap (λ (g : Page). g .rows) p)) r
+                ∙ sym (ap (rowsIn (q .shape .k) (clientPage q t .rows)) rows),
           )
 
   -- ---- all of them
@@ -209,7 +209,7 @@ module _ (q : Request) (typed : Typed (q .shape)) (e : roundCause q ≡ 0) where
   probes-sum : sum (map (λ p. p .probes) (roundCall q .pages)) ≡ spent (q .clients)
   probes-sum =
       let m = q .clients in
-      let g : ℕ → ℕ = λ t. pageOf q t .probes in
+      let g : ℕ → ℕ = λ t. clientPage q t .probes in
       let a = ap (λ (l : List Page). sum (map (λ p. p .probes) l)) pages-are ∙ ap sum (map-each (λ p. p .probes) (λ t. answerAt q t ∷ []) 1 16) in
       let b : sum (upto (λ t. answerAt q t .probes) 1 16) ≡ sum (upto g 1 16) = ap sum (each-within (λ t. answerAt q t .probes ∷ []) (λ t. g t ∷ []) 1 16 (λ t x y. ap (λ (p : Page). p .probes ∷ []) (sym (page-at t x (omega arith))))) in
       let z : m + (16 - m) ≡ 16 = omega (arith, acc .fit .few) in
@@ -318,7 +318,7 @@ module _ (s : Shape) (cells : List ℤ) (t : ℕ) where
         go false b x y k = counted-too (allowed (callOf q t)) k
 
     -- what the rounds gave it is what its page calls answer and put out
-    pages-are-theirs : {r : Course} {qs : List Request} → Typed s → RunOf s cells t r qs → map (λ q. pageOf q t) (serving t qs) ≡ map answer (callsOf t qs)
+    pages-are-theirs : {r : Course} {qs : List Request} → Typed s → RunOf s cells t r qs → map (λ q. clientPage q t) (serving t qs) ≡ map answer (callsOf t qs)
     pages-are-theirs typed end = refl
     pages-are-theirs typed (passed-over {q = q} n h) = rw (unserved q n) (pages-are-theirs typed h)
     pages-are-theirs typed (in-turn {q = q} e l shape same h) =
@@ -333,7 +333,7 @@ module _ (s : Shape) (cells : List ℤ) (t : ℕ) where
         let x = callOf q t in
         let a = ap (λ (g : Page). rowsIn (q .shape .k) (g .rows) (partOf q t (roundTable q))) (c .page) in
         let b = ap (λ (y : List ℕ). rowsIn (q .shape .k) (answer x .rows) y) (c .part) in
-        let d = ap (λ (z : Shape). rowsIn (z .k) (answer x .rows) (after x)) shape in
+        let d = ap (λ (z : Shape). rowsIn (z .k) (answer x .rows) (tableAfter x)) shape in
         rw (served q e l) (ap₂ _++_ (a ∙ (b ∙ d)) (rows-are-theirs typed h))
 
     list-holds : (order counter : List ℕ) (qs : List Request) → Typed s → freshCause s cells order counter ≡ 0

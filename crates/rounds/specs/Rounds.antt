@@ -45,8 +45,8 @@ counterOf counters t = take 1 (drop (t - 1) counters)
 
 -- ---- the checks
 -- else 02: "m outside 1 to 16, the first tablet not among them, B above 2^32 − 1, or not m run records"
-unfoldable pub fits : (m first budget records : ℕ) → Bool
-fits m first budget records = leb 1 m && (leb m 16 && (leb 1 first && (leb first m && (leb budget 4294967295 && eqb records m))))
+unfoldable pub fitsRound : (m first budget records : ℕ) → Bool
+fitsRound m first budget records = leb 1 m && (leb m 16 && (leb 1 first && (leb first m && (leb budget 4294967295 && eqb records m))))
 
 module _ (q : Request) where
   abbrev pub ticketAt : (t : ℕ) → Ticket
@@ -72,7 +72,7 @@ module _ (q : Request) where
   unfoldable pub roundCause : ℕ
   roundCause =
       orderCause (q .shape) (q .cells) (q .order)
-      orElse unless (fits (q .clients) (q .first) (q .budget) (length (q .counters))) 22
+      orElse unless (fitsRound (q .clients) (q .first) (q .budget) (length (q .counters))) 22
       orElse clientsCause 1 (q .clients)
 
   -- ---- the page calls

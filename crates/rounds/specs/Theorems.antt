@@ -22,7 +22,7 @@ use Rattle.paging.specs.declared.Page.{Page}
 use Rattle.paging.specs.Cursors.{endedCursor}
 use Rattle.paging.specs.Overlays.{overlay}
 use Rattle.paging.specs.Calls.{freshCause, freshCall, freshCounter}
-use Rattle.paging.specs.Theorems.{Call, cause, answer, after, counted, Good, Current}
+use Rattle.paging.specs.Theorems.{Call, cause, answer, tableAfter, counted, Good, Current}
 use Rattle.demands.specs.Theorems.{OneRun, Last, handed, PagingHolds, TicketsHold}
 use Rattle.rows.specs.Tables.{rowsIn}
 use Rattle.rounds.specs.Shares.{clientAt}
@@ -77,8 +77,8 @@ module _ (q : Request) where
   callOf t = callWith t (partAt q t)
 
   -- the page that client t got
-  abbrev pub pageOf : (t : ℕ) → Page
-  pageOf t = getD (roundCall q .pages) (t - 1) (idlePage (record { cursor = endedCursor; count = 0 }))
+  abbrev pub clientPage : (t : ℕ) → Page
+  clientPage t = getD (roundCall q .pages) (t - 1) (idlePage (record { cursor = endedCursor; count = 0 }))
 
   -- a table is "cut from its first cell into m parts, in tablet order from tablet 1, of cells / (k × m) rows, rounded down": the cells of each, and part t
   abbrev pub cellsEach : ℕ
@@ -89,27 +89,27 @@ module _ (q : Request) where
 
   -- the rows that client t got
   abbrev pub rowsFor : (t : ℕ) → List (List ℕ)
-  rowsFor t = rowsIn (q .shape .k) (pageOf t .rows) (partOf t (roundTable q))
+  rowsFor t = rowsIn (q .shape .k) (clientPage t .rows) (partOf t (roundTable q))
 
   -- the client in turn i, from 0
   abbrev pub turn : (i : ℕ) → ℕ
   turn i = clientAt (q .clients) (q .first) i
 
   -- u comes after t: "1 after m"
-  abbrev pub Follows : (t u : ℕ) → Type 0
-  Follows t u = (t ≡ q .clients → u ≡ 1) × ((t ≡ q .clients → ⊥) → u ≡ t + 1)
+  abbrev pub NextClient : (t u : ℕ) → Type 0
+  NextClient t u = (t ≡ q .clients → u ≡ 1) × ((t ≡ q .clients → ⊥) → u ≡ t + 1)
 
 -- the order in which clients are served, and what each is offered
 pub record Turns (q : Request) : Type 0 where
   -- "Tablets are served in turn order, 1 after m, from a given first one."
   pub start : turn q 0 ≡ q .first
-  pub next : (i : ℕ) → Follows q (turn q i) (turn q (suc i))
+  pub next : (i : ℕ) → NextClient q (turn q i) (turn q (suc i))
   -- so m turns serve each client, and, as they are m, just once
   pub all : (t : ℕ) → 1 ≤ t → t ≤ q .clients → (i : ℕ) × (i < q .clients) × (turn q i ≡ t)
   -- "Each is offered the trials left divided by the tablets still to serve, rounded down, and makes one page call with that. Its unused trials stay in what is
   -- left."
   pub offers : (i : ℕ) → i < q .clients
-      → budgetAt q (turn q i) ≡ (q .budget - sum (map (λ j. pageOf q (turn q j) .probes) (numbers i))) / (q .clients - i)
+      → budgetAt q (turn q i) ≡ (q .budget - sum (map (λ j. clientPage q (turn q j) .probes) (numbers i))) / (q .clients - i)
 
 -- what client t has of an accepted round
 pub record ClientHolds (q : Request) (t : ℕ) : Type 0 where
@@ -118,27 +118,27 @@ pub record ClientHolds (q : Request) (t : ℕ) : Type 0 where
   pub lends : counterAt q t ≡ getD (q .counters) (t - 1) 0 ∷ []
   -- its page call is accepted; its answer, its counter and its part are those of this call alone
   pub accepted : cause (callOf q t) ≡ 0
-  pub page : pageOf q t ≡ answer (callOf q t)
+  pub page : clientPage q t ≡ answer (callOf q t)
   pub counter : take 1 (drop (t - 1) (roundCounters q)) ≡ counted (callOf q t)
-  pub part : partOf q t (roundTable q) ≡ after (callOf q t)
+  pub part : partOf q t (roundTable q) ≡ tableAfter (callOf q t)
   pub cut : partAt q t ≡ partOf q t (q .table)
   -- "Each tablet performs at least B / m trials, rounded down, unless it ends or its part is full": each is offered as many
   pub offered : q .budget / q .clients ≤ budgetAt q t
-  pub share : (pageOf q t .stop ≡ Ended) ⊎ ((pageOf q t .stop ≡ Full) ⊎ (q .budget / q .clients ≤ pageOf q t .probes))
+  pub share : (clientPage q t .stop ≡ Ended) ⊎ ((clientPage q t .stop ≡ Full) ⊎ (q .budget / q .clients ≤ clientPage q t .probes))
   -- "Each run's rows and trials are those it would have had alone with the same budgets and part sizes": with any table as long as the part
   pub alone : (table : List ℕ) → length table ≡ length (partAt q t)
-      → (answer (callWith q t table) ≡ pageOf q t) × (rowsIn (q .shape .k) (pageOf q t .rows) (after (callWith q t table)) ≡ rowsFor q t)
+      → (answer (callWith q t table) ≡ clientPage q t) × (rowsIn (q .shape .k) (clientPage q t .rows) (tableAfter (callWith q t table)) ≡ rowsFor q t)
 
 -- its number is 0 (`RoundsHold`: `number`)
 pub record RoundHolds (q : Request) : Type 0 where
   -- "The next round starts with the tablet after this first one (1 after m)"
-  pub next : Follows q (q .first) (roundCall q .next)
+  pub next : NextClient q (q .first) (roundCall q .next)
   pub turns : Turns q
   pub clients : (t : ℕ) → 1 ≤ t → t ≤ q .clients → ClientHolds q t
   -- "past m the ticket comes back as given, the stop is Spent and all else 0"
   pub sixteen : length (roundCall q .pages) ≡ 16
   pub past : (t : ℕ) → q .clients < t → t ≤ 16 → let given = getD (q .tickets) (t - 1) (record { cursor = endedCursor; count = 0 }) in
-      pageOf q t ≡ record { stop = Spent; rows = 0; probes = 0; area = totalOf 0; ticket = given }
+      clientPage q t ≡ record { stop = Spent; rows = 0; probes = 0; area = totalOf 0; ticket = given }
   -- "No round spends more than B."
   pub within : sum (map (λ p. p .probes) (roundCall q .pages)) ≤ q .budget
   -- the table's parts are the clients'; "the rest is kept"
@@ -167,7 +167,7 @@ pub record ListHolds (s : Shape) (cells : List ℤ) (first : Ticket) (counter : 
   pub tickets : TicketsHold first counter (callsOf t qs)
   -- "Each run's rows and trials are those it would have had alone with the same budgets and part sizes": what its page calls, made alone one after the other,
   -- answer and put out is what the rounds gave it
-  pub pages : map (λ q. pageOf q t) (serving t qs) ≡ map answer (callsOf t qs)
+  pub pages : map (λ q. clientPage q t) (serving t qs) ≡ map answer (callsOf t qs)
   pub rows : flatMap (λ q. rowsFor q t) (serving t qs) ≡ handed (s .k) (callsOf t qs)
   -- "Where B ≥ m and every part takes a row, each tablet's run ends within its walk's length plus one accepted rounds that serve it, whichever way the others
   -- go": as soon as such rounds outnumber that length, whatever other rounds lie among them

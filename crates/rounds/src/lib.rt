@@ -1,5 +1,5 @@
 // Rounds (02, Q-10): many clients, 02's tablets, page through one plan in turns. The type of a round's answer; what a round answers is defined in specs/,
-// what is promised of rounds and of lists of rounds is proved in proofs/; the code is in the crate `rounder`.
+// what is promised of rounds and of lists of rounds is proved in proofs/; the code is in the crate `rounds_code`.
 
 use paging::Page;
 

@@ -23,7 +23,7 @@ use Rattle.rows.specs.declared.RowAnswer.the-variants.{Refused, NoRow, R
 use Rattle.rows.specs.declared.CommonAnswer.{CommonAnswer}
 use Rattle.rows.specs.declared.CommonAnswer.the-variants as told
 use Rattle.join.specs.Join.{_below_, rects, commonOf, areaIn, kindIn, guardLayer, Within}
-use Rattle.rows.specs.Grounds.{groundBy, sharedBy, groundOf, rowNamed, planNamed}
+use Rattle.rows.specs.inner.Grounds.{groundBy, sharedBy, groundOf, rowNamed, planNamed}
 use Rattle.rows.specs.RowCall.{fits, isRow, rowCall, commonCall}
 use Rattle.join.proofs.Join.{guard-is}
 use Rattle.rows.proofs.RowCall.{sizes-of, is-row}

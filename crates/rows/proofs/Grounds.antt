@@ -24,8 +24,8 @@ use Rattle.rows.specs.declared.Sharing.{Sharing}
 use Rattle.rows.specs.declared.Sharing.the-variants.{Nothing, Shared}
 use Rattle.join.specs.Join.{rects, cut, sameZ, firstAt}
 use Rattle.rows.specs.RowCall.{fits}
-use Rattle.rows.specs.Layers.{Reached, rectsFrom}
-use Rattle.rows.specs.Grounds.{takeIn, groundBy, sharedBy}
+use Rattle.rows.specs.inner.Layers.{Reached, rectsFrom}
+use Rattle.rows.specs.inner.Grounds.{takeIn, groundBy, sharedBy}
 use Rattle.join.proofs.Join.{cut-some, cut-above, same-yes, same-true}
 use Rattle.rows.proofs.Layers.{reached-next, rects-next, rects-end, rects-solid}
 

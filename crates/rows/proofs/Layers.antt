@@ -15,11 +15,10 @@ use Rattle.geometry.specs.declared.Rect.{Rect}
 use Rattle.geometry.specs.Rectangles.{nonempty, extent, inExtent}
 use Rattle.geometry.proofs.Rectangles.{held-nonempty}
 use Rattle.plan.specs.Plan.{rectAt, layersOf}
-use Rattle.plan.specs.Frames.{Framed}
 use Rattle.plan.proofs.Spots.{rect-take, rect-drop}
 use Rattle.join.specs.Join.{rects}
 use Rattle.rows.specs.RowCall.{fits}
-use Rattle.rows.specs.Layers.{Reached, rectsFrom}
+use Rattle.rows.specs.inner.Layers.{Reached, rectsFrom}
 use Rattle.rows.proofs.RowCall.{fits-long, fits-at}
 
 pub reached-none : (sizes : List ℕ) → Reached sizes 0 0
@@ -33,10 +32,6 @@ module _ (sizes : List ℕ) (start j : ℕ) (t : Reached sizes start j) (h : j <
   reached-next = rw add-one (record { within = h; sums = sum-next })
 
   module _ (cells : List ℤ) (row : List ℕ) (e : fits sizes row ≡ true) where
-    -- the next layer and its rectangle are there
-    pub next-reads : Framed sizes cells → (4 * start + 4 * getD sizes j 0 ≤ length cells) × (getD row j 0 < getD sizes j 0)
-    next-reads f = (omega (arith, sum-next, f .whole), fits-at sizes row j e h)
-
     pub rects-next : (r : Rect) → r ≡ rectAt (take (4 * getD sizes j 0) (drop (4 * start) cells)) (getD row j 0)
         → rectsFrom sizes cells row start j ≡ r ∷ rectsFrom sizes cells row (start + getD sizes j 0) (j + 1)
     rects-next r p =
@@ -48,11 +43,6 @@ module _ (sizes : List ℕ) (start j : ℕ) (t : Reached sizes start j) (h : j <
         later =
             let q : 4 * start + 4 * getD sizes j 0 ≡ 4 * (start + getD sizes j 0) = omega arith in
             drop-drop (4 * getD sizes j 0) (4 * start) cells ∙ ap (λ (n : ℕ). drop n cells) q
-
--- the first layer and its rectangle are there
-pub first-reads : (sizes : List ℕ) (cells : List ℤ) (row : List ℕ) → Framed sizes cells → fits sizes row ≡ true
-    → (4 * 0 + 4 * getD sizes 0 0 ≤ length cells) × (getD row 0 0 < getD sizes 0 0)
-first-reads sizes cells row f e = next-reads sizes 0 0 (reached-none sizes) (omega (arith, f .some)) cells row e f
 
 -- behind the last layer there is none
 pub rects-end : (sizes : List ℕ) (cells : List ℤ) (row : List ℕ) (start j : ℕ) → length sizes ≤ j → rectsFrom sizes cells row start j ≡ []

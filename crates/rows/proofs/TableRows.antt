@@ -21,7 +21,7 @@ use Rattle.rows.specs.RowCall.{fits, isRow}
 use Rattle.rows.proofs.RowCall.{fits-long, sizes-of}
 use Rattle.rows.proofs.Theorems as Row
 use Rattle.rows.specs.Tables.{rowsIn}
-use Rattle.rows.specs.TableRows.{AllRows, TableRows}
+use Rattle.rows.specs.inner.TableRows.{AllRows, TableRows}
 
 -- a row has a place for each layer
 row-long : (sizes : List ℕ) (cells : List ℤ) (row : List ℕ) → isRow (layersOf sizes cells) row ≡ true → length row ≡ length sizes

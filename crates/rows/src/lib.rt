@@ -1,5 +1,5 @@
 // Rows: what lent cells name in the table of a plan (01: the row call), and what the rectangles of a row have in common. What the calls answer is defined in
-// specs/; the code is in the crate `finder`.
+// specs/; the code is in the crate `rows_code`.
 use geometry::Kind;
 use geometry::Rect;
 

@@ -1,10 +1,10 @@
 // The ground of a whole run's rows: all of it, each part once.
 use crate::passes::Listing;
-use overlapper::union_of_layers;
+use ground_code::union_of_table;
+use overlap_code::union_of_layers;
 use paging::Run;
 use plan::Shape;
 use slots::Frame;
-use strips::union_of_table;
 use totals::add;
 use totals::nothing;
 ghost use mathlib.Core.Path.{_≡_};

@@ -1,7 +1,5 @@
 pub mod Traversal
 pub mod Names
 pub mod Paging
-pub mod Zipper
-pub mod Positions
-pub mod Turns
 pub mod Narrowing
+pub mod inner

@@ -6,7 +6,7 @@ ghost use Prim.Native.Nat.{_+_, _<_, _≤_};
 ghost use lib.ListN.{length};
 ghost use lib.IntN.{natAbs};
 ghost use Rattle.decimal.specs.Numerals.{size, decimal, numeral, short};
-ghost use Rattle.lists.specs.Stores.{Put};
+ghost use Rattle.lists.specs.inner.Stores.{Put};
 
 // How many digits n has. `next` is ten to the power c + 1: each power is ten times the one before.
 pub fn size_of(n: u64) -> usize

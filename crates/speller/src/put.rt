@@ -10,7 +10,7 @@ ghost use Prim.Native.Nat.{_+_, _≤_};
 ghost use lib.IntN.{pos};
 ghost use lib.ListN.{length};
 ghost use Rattle.decimal.specs.Numerals.{short};
-ghost use Rattle.lists.specs.Stores.{Put};
+ghost use Rattle.lists.specs.inner.Stores.{Put};
 ghost use Rattle.line.specs.declared.Line.the-variants.{Plan, Layer, Rectangle};
 ghost use Rattle.line.specs.Lines.{putField, spellTo, shortRect};
 

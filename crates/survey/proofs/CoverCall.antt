@@ -13,7 +13,7 @@ use Rattle.lists.proofs.Tests.{both}
 use Rattle.plan.specs.Causes.{unless}
 use Rattle.plan.specs.Limits.{mostSize}
 use Rattle.plan.proofs.Plan.{or-else-zero, unless-zero}
-use Rattle.lists.specs.Stores.{Put}
+use Rattle.lists.specs.inner.Stores.{Put}
 use Rattle.lists.proofs.Stores.{put-start}
 use Rattle.survey.specs.declared.Corners.{Corners}
 use Rattle.survey.specs.declared.Strip.{Strip}
@@ -22,7 +22,7 @@ use Rattle.survey.specs.declared.Covering.the-variants.{Kept, Refused}
 use Rattle.survey.specs.Strips.{soundStrip}
 use Rattle.survey.specs.Records.{records, allSound, coverCells}
 use Rattle.survey.specs.CoverCall.{inputCause, kept, coverCause, layerOf, coverAnswer, coverAfter, coverValues}
-use Rattle.survey.specs.Puts.{LayerFits}
+use Rattle.survey.specs.inner.Puts.{LayerFits}
 
 -- four cells a record
 pub cells-long : (cs : List Corners) → length (coverCells cs) ≡ 4 * length cs

@@ -19,7 +19,7 @@ use Rattle.survey.specs.declared.Corners.{Corners}
 use Rattle.survey.specs.Strips.{ordered}
 use Rattle.survey.specs.Records.{coverOf, soundRecord}
 use Rattle.survey.specs.Theorems.{Ordered}
-use Rattle.survey.specs.Puts.{spanned, Near}
+use Rattle.survey.specs.inner.Puts.{spanned, Near}
 
 -- ---- two floats in order
 pub ordered→ : (low high : Float) → ordered low high ≡ true → Ordered low high

@@ -26,7 +26,7 @@ use Rattle.survey.specs.declared.Strip.{Strip}
 use Rattle.survey.specs.Records.{cornersAt, records, coverOf, soundRecord, allSound, keptBy, coverCells}
 use Rattle.survey.specs.declared.Covering.the-variants.{Refused}
 use Rattle.survey.specs.CoverCall.{kept, coverCause, layerOf, coverAnswer, coverAfter}
-use Rattle.survey.specs.Theorems.{GoodLayer, Accepted}
+use Rattle.survey.specs.Theorems.{GoodLayer, CoverAccepted}
 use Rattle.survey.proofs.Records.{all-sound→}
 use Rattle.survey.proofs.CoverCall.{cells-long}
 use Rattle.survey.proofs.Keeping.{surveyed}
@@ -77,7 +77,7 @@ module _ (across upward : Strip) (corners : List Float) (cells : List ℤ) (e : 
   unfolding coverAfter
   after = rw e
 
-  pub accepted-is : Accepted taken cells (coverAnswer across upward corners (length cells)) (coverAfter across upward corners cells)
+  pub accepted-is : CoverAccepted taken cells (coverAnswer across upward corners (length cells)) (coverAfter across upward corners cells)
   unfolding coverAnswer
   accepted-is =
       let four = cells-long taken in

@@ -13,13 +13,13 @@ use Rattle.lists.specs.Lists.{All, none-left, _and_, upto, keep}
 use Rattle.lists.proofs.Tests.{both, and-true}
 use Rattle.lists.proofs.Lists.{all-getD}
 use Rattle.lists.proofs.Kept.{all-each, length-upto, getD-upto}
-use Rattle.lists.specs.Stores.{Put}
+use Rattle.lists.specs.inner.Stores.{Put}
 use Rattle.lists.proofs.Stores.{Left, left-all, left-put, left-room, left-none}
 use Rattle.survey.specs.declared.Corners.{Corners}
 use Rattle.survey.specs.declared.Strip.{Strip}
 use Rattle.survey.specs.Records.{cornersAt, records, coverOf, soundRecord, allSound, keptBy, coverCells}
 use Rattle.survey.specs.CoverCall.{kept, layerOf}
-use Rattle.survey.specs.Puts.{cellsOf, RecordFits, LayerFits}
+use Rattle.survey.specs.inner.Puts.{cellsOf, RecordFits, LayerFits}
 
 -- ---- all records are sound
 pub all-sound→ : (cs : List Corners) → allSound cs ≡ true → All (λ c. soundRecord c ≡ true) cs

@@ -2,4 +2,4 @@ pub mod Strips
 pub mod Records
 pub mod CoverCall
 pub mod Theorems
-pub mod Puts
+pub mod inner

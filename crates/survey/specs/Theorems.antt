@@ -90,7 +90,7 @@ abbrev pub GoodLayer : List Corners → Type 0
 GoodLayer cs = (length cs ≤ 512) × (length (coverCells cs) ≡ 4 * length cs) × AllIn (coverCells cs)
 
 -- what an accepted call that keeps these records answers, and leaves in these cells
-pub record Accepted (cs : List Corners) (cells : List ℤ) (answer : Covering) (after : List ℤ) : Type 0 where
+pub record CoverAccepted (cs : List Corners) (cells : List ℤ) (answer : Covering) (after : List ℤ) : Type 0 where
   -- "the number kept is returned"
   pub returned : answer ≡ Kept (length cs)
   -- "The kept records' covers form a layer, in their order, in the first cells of a lent buffer; the other cells keep their contents"
@@ -115,7 +115,7 @@ module _ (across upward : Strip) (corners : List Float) (cs : List Corners) wher
     pub causes : Check 21 (SoundStops across × SoundStops upward) (Check 20 (Recorded corners)
         (Check 2 (length cs ≤ 512) (Check 11 (4 * length cs ≤ length cells) Passed))) cause
     pub kept : SoundStops across → SoundStops upward → Recorded corners → (places : List ℕ) × KeptAt places
-    pub accepted : cause ≡ 0 → Accepted cs cells answer after
+    pub accepted : cause ≡ 0 → CoverAccepted cs cells answer after
     -- 01: "A refusal returns its number and 0 for all else", and the cells are as they were
     pub refused : (n : ℕ) → cause ≡ suc n → (answer ≡ Refused (suc n)) × (after ≡ cells)
 

@@ -1,5 +1,5 @@
 // Corner records of the survey instrument, survey strips, and the layer of the records' covers (02, Q-9): defined in specs/. The code is in the crate
-// `surveyor`.
+// `survey_code`.
 
 // A corner record of the instrument.
 pub struct Corners {

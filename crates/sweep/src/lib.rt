@@ -1,4 +1,4 @@
-// The sweep order of a plan, and what the order maker answers: defined in specs/. The code is in the crate `sweeper`.
+// The sweep order of a plan, and what the order maker answers: defined in specs/. The code is in the crate `sweep_code`.
 
 // What the order maker answers.
 pub enum OrderAnswer {

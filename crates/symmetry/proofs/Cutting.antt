@@ -13,7 +13,7 @@ use Rattle.lists.proofs.Kept.{map-++, map-map, map-same}
 use Rattle.lists.proofs.Numbers.{sum-++}
 use Rattle.join.specs.Join.{areaIn}
 use Rattle.symmetry.specs.Plans.{Plan, partsOf, piece, countedOn}
-use Rattle.symmetry.specs.Theorems.{Accepted, layersIn, tableIn, groundIn, areasIn, PieceIs, SameSet, Cut}
+use Rattle.symmetry.specs.Theorems.{Accepted, grownLayers, tableIn, groundIn, areasIn, PieceIs, SameSet, Cut}
 use Rattle.symmetry.proofs.Places.{join-placed, ground-area}
 use Rattle.symmetry.proofs.Sheets.{sheets-of}
 use Rattle.symmetry.proofs.Rows.{row-join, rows-once, layers-k, rows-k, same-set, set-sum}
@@ -135,9 +135,9 @@ module _ (j m n : ℕ) (p : Plan) (a : Accepted p) (hj : j < p .shape .k) (hm : 
 
   areas : areasIn one + areasIn two ≡ areasIn p
   areas =
-      let f = areaIn (layersIn p) in
-      let x = map-same (areaIn (layersIn one)) f (all-of-mem (tableIn one) (λ row i. ground-area (layersIn one) row (layersIn p) row (sym (one-ground row i)))) in
-      let y = map-same (areaIn (layersIn two)) (λ row. f (countedOn j m row)) (all-of-mem (tableIn two) (λ row i. ground-area (layersIn two) row (layersIn p) (countedOn j m row) (sym (two-ground row i)))) in
+      let f = areaIn (grownLayers p) in
+      let x = map-same (areaIn (grownLayers one)) f (all-of-mem (tableIn one) (λ row i. ground-area (grownLayers one) row (grownLayers p) row (sym (one-ground row i)))) in
+      let y = map-same (areaIn (grownLayers two)) (λ row. f (countedOn j m row)) (all-of-mem (tableIn two) (λ row i. ground-area (grownLayers two) row (grownLayers p) (countedOn j m row) (sym (two-ground row i)))) in
       ap₂ (λ (s t : List ℕ). sum s + sum t) x (y ∙ sym (map-map f (countedOn j m) (tableIn two)))
       ∙ sym (set-sum same-rows f ∙ (ap sum (map-++ f (tableIn one) counted) ∙ sum-++ (map f (tableIn one)) (map f counted)))
 

@@ -13,7 +13,7 @@ use Rattle.plan.specs.Spots.{layerAt}
 use Rattle.plan.proofs.Spots.{rect-take, rect-drop}
 use Rattle.join.specs.Join.{InJoin}
 use Rattle.symmetry.specs.Plans.{Plan, partsOf, joined, countedOn}
-use Rattle.symmetry.specs.Theorems.{Accepted, layersIn, drawnAt, SameLayer, tableIn, groundIn}
+use Rattle.symmetry.specs.Theorems.{Accepted, grownLayers, drawnAt, SameLayer, tableIn, groundIn}
 use Rattle.symmetry.proofs.Counted.{counted-long, counted-here, counted-else, counted-back}
 use Rattle.symmetry.proofs.Places.{here-or-else, Placed, Among, rectIn, among-join, join-placed, same-ground}
 use Rattle.symmetry.proofs.Parts.{drawnLayer, grownLayer, grown-place}
@@ -94,20 +94,20 @@ module _ (p : Plan) (a : Accepted p) (j : ℕ) (hj : j < p .shape .k) (start siz
   drawn-rect r h =
       ap (λ (z : Layer). z .rect r) drawn-here ∙ (piece .same r h ∙ sym (ap (λ (z : Layer). z .rect (start + r)) (drawn-of (p .shape) (p .cells) a j hj)))
 
-  layer-q : (m : ℕ) → m < k → layerAt (layersIn q) m ≡ grownLayer (getD (q .shape .sizes) m 0) (getD (p .shape .margins) m 0) (getD (set (partsOf p) j part) m [])
+  layer-q : (m : ℕ) → m < k → layerAt (grownLayers q) m ≡ grownLayer (getD (q .shape .sizes) m 0) (getD (p .shape .margins) m 0) (getD (set (partsOf p) j part) m [])
   layer-q m h =
       layer-of (q .shape) (q .cells) sound m h
       ∙ ap (λ (z : List (List ℤ)). grownLayer (getD (q .shape .sizes) m 0) (getD (p .shape .margins) m 0) (getD z m [])) (parts-back (q .shape) (set (partsOf p) j part) sheets)
 
-  layer-else : (m : ℕ) → m < k → (m ≡ j → ⊥) → layerAt (layersIn q) m ≡ layerAt (layersIn p) m
+  layer-else : (m : ℕ) → m < k → (m ≡ j → ⊥) → layerAt (grownLayers q) m ≡ layerAt (grownLayers p) m
   layer-else m h n =
       layer-q m h ∙ (ap₂ (λ (z : ℕ) (l : List ℤ). grownLayer z (getD (p .shape .margins) m 0) l) (size-else m n) (part-else m n) ∙ sym (layer-of (p .shape) (p .cells) a m h))
 
-  layer-here : layerAt (layersIn q) j ≡ grownLayer size (getD (p .shape .margins) j 0) part
+  layer-here : layerAt (grownLayers q) j ≡ grownLayer size (getD (p .shape .margins) j 0) part
   layer-here = layer-q j hj ∙ ap₂ (λ (z : ℕ) (l : List ℤ). grownLayer z (getD (p .shape .margins) j 0) l) size-here part-here
 
   -- a place of the part is one of the whole list
-  rect-here : (r : ℕ) → r < size → layerAt (layersIn p) j .rect (start + r) ≡ layerAt (layersIn q) j .rect r
+  rect-here : (r : ℕ) → r < size → layerAt (grownLayers p) j .rect (start + r) ≡ layerAt (grownLayers q) j .rect r
   rect-here r h =
       let g = getD (p .shape .margins) j 0 in
       let n = getD (p .shape .sizes) j 0 in
@@ -116,44 +116,44 @@ module _ (p : Plan) (a : Accepted p) (j : ℕ) (hj : j < p .shape .k) (start siz
       ∙ (ap (grownBy g) (sym (piece .same r h))
       ∙ sym (ap (λ (z : Layer). z .rect r) layer-here ∙ grown-place size g part (piece .long) r h)))
 
-  pub size-p : layerAt (layersIn p) j .size ≡ getD (p .shape .sizes) j 0
+  pub size-p : layerAt (grownLayers p) j .size ≡ getD (p .shape .sizes) j 0
   size-p = ap (λ (z : Layer). z .size) (layer-of (p .shape) (p .cells) a j hj)
 
-  size-q : layerAt (layersIn q) j .size ≡ size
+  size-q : layerAt (grownLayers q) j .size ≡ size
   size-q = ap (λ (z : Layer). z .size) layer-here
 
-  long-p : length (layersIn p) ≡ k
+  long-p : length (grownLayers p) ≡ k
   long-p = layers-k p a
 
-  long-q : length (layersIn q) ≡ k
+  long-q : length (grownLayers q) ≡ k
   long-q = layers-k q sound
 
   -- ---- a row of the part, and the same counted on
   module _ (row : List ℕ) (long : length row ≡ k) (here : getD row j 0 < size) where
-    same-rect : (m : ℕ) → m < k → rectIn (layersIn p) (countedOn j start row) m ≡ rectIn (layersIn q) row m
+    same-rect : (m : ℕ) → m < k → rectIn (grownLayers p) (countedOn j start row) m ≡ rectIn (grownLayers q) row m
     same-rect =
-        here-or-else j (λ m. m < k → rectIn (layersIn p) (countedOn j start row) m ≡ rectIn (layersIn q) row m)
-        (λ h. ap (layerAt (layersIn p) j .rect) (counted-here j start row (omega (arith, long))) ∙ rect-here (getD row j 0) here)
+        here-or-else j (λ m. m < k → rectIn (grownLayers p) (countedOn j start row) m ≡ rectIn (grownLayers q) row m)
+        (λ h. ap (layerAt (grownLayers p) j .rect) (counted-here j start row (omega (arith, long))) ∙ rect-here (getD row j 0) here)
         (λ m n h. ap₂ (λ (z : Layer) (r : ℕ). z .rect r) (sym (layer-else m h n)) (counted-else j start row m n))
 
-    forth : Among (λ m. m) (layersIn p) (countedOn j start row) (layersIn q) row
+    forth : Among (λ m. m) (grownLayers p) (countedOn j start row) (grownLayers q) row
     forth = record { layer = λ m h. omega (arith, long-p, long-q); same = λ m h. same-rect m (omega (arith, long-p)) }
 
-    back : Among (λ m. m) (layersIn q) row (layersIn p) (countedOn j start row)
+    back : Among (λ m. m) (grownLayers q) row (grownLayers p) (countedOn j start row)
     back = record { layer = λ m h. omega (arith, long-p, long-q); same = λ m h. sym (same-rect m (omega (arith, long-q))) }
 
-    placed : Placed (layersIn q) row → Placed (layersIn p) (countedOn j start row)
+    placed : Placed (grownLayers q) row → Placed (grownLayers p) (countedOn j start row)
     placed d = record {
       long = counted-long j start row ∙ (long ∙ sym long-p);
-      has = λ m h. here-or-else j (λ m. m < k → getD (countedOn j start row) m 0 < layerAt (layersIn p) m .size)
+      has = λ m h. here-or-else j (λ m. m < k → getD (countedOn j start row) m 0 < layerAt (grownLayers p) m .size)
           (λ h. omega (arith, counted-here j start row (omega (arith, long)), size-p, piece .fits))
           (λ m n h. omega (arith, counted-else j start row m n, ap (λ (z : Layer). z .size) (layer-else m h n), d .has m (omega (arith, long-q)))) m (omega (arith, long-p));
     }
 
-    unplaced : Placed (layersIn p) (countedOn j start row) → Placed (layersIn q) row
+    unplaced : Placed (grownLayers p) (countedOn j start row) → Placed (grownLayers q) row
     unplaced d = record {
       long = long ∙ sym long-q;
-      has = λ m h. here-or-else j (λ m. m < k → getD row m 0 < layerAt (layersIn q) m .size)
+      has = λ m h. here-or-else j (λ m. m < k → getD row m 0 < layerAt (grownLayers q) m .size)
           (λ h. omega (arith, size-q))
           (λ m n h. omega (arith, counted-else j start row m n, ap (λ (z : Layer). z .size) (layer-else m h n), d .has m (omega (arith, long-p)))) m (omega (arith, long-q));
     }
@@ -184,7 +184,7 @@ module _ (p : Plan) (a : Accepted p) (j : ℕ) (hj : j < p .shape .k) (start siz
       let e = counted-back j start row (omega (arith, l)) low in
       let n : length r ≡ k = length-set row j (getD row j 0 - start) ∙ l in
       let h : getD r j 0 < size = omega (arith, getD-set-same row j (getD row j 0 - start) 0 (omega (arith, l))) in
-      let i = subst (InJoin (layersIn p)) (sym e) (row-join p a row m) in
+      let i = subst (InJoin (grownLayers p)) (sym e) (row-join p a row m) in
       (r, join-row q sound r (among-join (back r n h) (unplaced r n h (join-placed i)) i), e)
 
   pub part-ground : (row : List ℕ) → List·Memᴰ row (tableIn q) → groundIn p (countedOn j start row) ≡ groundIn q row

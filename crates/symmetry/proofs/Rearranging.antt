@@ -19,7 +19,7 @@ use Rattle.join.specs.Join.{InJoin, areaIn}
 use Rattle.ground.specs.Union.{grounds}
 use Rattle.ground.proofs.Theorems.{union-members}
 use Rattle.symmetry.specs.Plans.{Plan, partsOf, joined}
-use Rattle.symmetry.specs.Theorems.{Accepted, layersIn, tableIn, groundIn, areasIn, unionIn, SameLayer, SameSet, AcceptedToo, KeepsGround}
+use Rattle.symmetry.specs.Theorems.{Accepted, grownLayers, tableIn, groundIn, areasIn, unionIn, SameLayer, SameSet, AcceptedToo, KeepsGround}
 use Rattle.symmetry.proofs.Places.{Follows, follows-among, follows-join, same-ground, ground-area}
 use Rattle.symmetry.proofs.Parts.{drawnLayer, grownLayer}
 use Rattle.symmetry.proofs.Sheets.{Sheet, Sheets, sheets-of, sheets-sound, parts-back, drawn-of, layer-of}
@@ -72,7 +72,7 @@ module _ (p q : Plan) (change : List ℕ → List ℕ) (rows : SameSet (tableIn 
           subst (λ (z : Rect). List·Memᴰ z (map (groundIn q) (tableIn q))) (ground (r .0) (r .1) ∙ r .2) (Memᴰ·map (groundIn q) (rows .same (change (r .0)) .1 (Memᴰ·map change (r .1))))
 
   same-union : unionIn q ≡ unionIn p
-  same-union = union-members (grounds (layersIn q) (tableIn q)) (grounds (layersIn p) (tableIn p)) same-grounds
+  same-union = union-members (grounds (grownLayers q) (tableIn q)) (grounds (grownLayers p) (tableIn p)) same-grounds
 
 module _ (p : Plan) (a : Accepted p) (s : Shape) (ps : List (List ℤ)) (from to : ℕ → ℕ) (moves : Moves (p .shape .k) from to) (moved : Moved p s ps from) where
   abbrev k : ℕ
@@ -101,7 +101,7 @@ module _ (p : Plan) (a : Accepted p) (s : Shape) (ps : List (List ℤ)) (from to
   sound : Accepted q
   sound = sheets-sound s ps sheets
 
-  layer-moved : (m : ℕ) → m < k → layerAt (layersIn q) m ≡ layerAt (layersIn p) (from m)
+  layer-moved : (m : ℕ) → m < k → layerAt (grownLayers q) m ≡ layerAt (grownLayers p) (from m)
   layer-moved m h =
       layer-of s (joined ps) sound m (omega (arith, moved .count))
       ∙ (ap (λ (z : List (List ℤ)). grownLayer (getD (s .sizes) m 0) (getD (s .margins) m 0) (getD z m [])) (parts-back s ps sheets)
@@ -117,7 +117,7 @@ module _ (p : Plan) (a : Accepted p) (s : Shape) (ps : List (List ℤ)) (from to
     margin = moved .margins m h;
   }
 
-  long-q : length (layersIn q) ≡ k
+  long-q : length (grownLayers q) ≡ k
   long-q = layers-k q sound ∙ moved .count
 
   module _ (change : List ℕ → List ℕ) (row-moves : MovesRow k from change) where
@@ -127,7 +127,7 @@ module _ (p : Plan) (a : Accepted p) (s : Shape) (ps : List (List ℤ)) (from to
 
     -- ---- a row and its changed one
     module _ (row : List ℕ) (long : length row ≡ k) where
-      forth : Follows from (layersIn q) (change row) (layersIn p) row
+      forth : Follows from (grownLayers q) (change row) (grownLayers p) row
       forth = record {
         long = row-moves .long row long ∙ sym long-q;
         inside = λ m h. subst (λ (n : ℕ). from m < n) (sym (layers-k p a)) (moves .from-below m (omega (arith, long-q)));
@@ -135,11 +135,11 @@ module _ (p : Plan) (a : Accepted p) (s : Shape) (ps : List (List ℤ)) (from to
         place = λ m h. row-moves .at row long m (omega (arith, long-q));
       }
 
-      back : Follows to (layersIn p) row (layersIn q) (change row)
+      back : Follows to (grownLayers p) row (grownLayers q) (change row)
       back = record {
         long = long ∙ sym (layers-k p a);
         inside = λ m h. subst (λ (n : ℕ). to m < n) (sym long-q) (moves .to-below m (omega (arith, layers-k p a)));
-        layer = λ m h. let l : m < k = omega (arith, layers-k p a) in sym (layer-moved (to m) (moves .to-below m l) ∙ ap (layerAt (layersIn p)) (moves .from-to m l));
+        layer = λ m h. let l : m < k = omega (arith, layers-k p a) in sym (layer-moved (to m) (moves .to-below m l) ∙ ap (layerAt (grownLayers p)) (moves .from-to m l));
         place = λ m h. let l : m < k = omega (arith, layers-k p a) in sym (changed-at row long m l);
       }
 
@@ -169,7 +169,7 @@ module _ (p : Plan) (a : Accepted p) (s : Shape) (ps : List (List ℤ)) (from to
     source-row row m =
         let e = changed-source row (row-k q sound row m ∙ moved .count) in
         subst (λ (r : List ℕ). List·Memᴰ r (map change (tableIn p))) e
-        (Memᴰ·map change (join-row p a (source row) (follows-join (back (source row) (source-long row)) (subst (InJoin (layersIn q)) (sym e) (row-join q sound row m)))))
+        (Memᴰ·map change (join-row p a (source row) (follows-join (back (source row) (source-long row)) (subst (InJoin (grownLayers q)) (sym e) (row-join q sound row m)))))
 
     -- no two rows are changed to the same
     one-to-one : (x y : List ℕ) → length x ≡ k → length y ≡ k → change x ≡ change y → x ≡ y
@@ -194,10 +194,10 @@ module _ (p : Plan) (a : Accepted p) (s : Shape) (ps : List (List ℤ)) (from to
 
     areas : areasIn q ≡ areasIn p
     areas =
-        set-sum same-rows (areaIn (layersIn q))
+        set-sum same-rows (areaIn (grownLayers q))
         ∙ ap sum
-        (map-map (areaIn (layersIn q)) change (tableIn p)
-        ∙ map-same (λ row. areaIn (layersIn q) (change row)) (areaIn (layersIn p)) (all-of-mem (tableIn p) (λ row m. ground-area (layersIn q) (change row) (layersIn p) row (ground row m))))
+        (map-map (areaIn (grownLayers q)) change (tableIn p)
+        ∙ map-same (λ row. areaIn (grownLayers q) (change row)) (areaIn (grownLayers p)) (all-of-mem (tableIn p) (λ row m. ground-area (grownLayers q) (change row) (grownLayers p) row (ground row m))))
 
     pub changed : Changed p q change
     changed = record { accepted = (moved .count, sound); rows = same-rows; areas = areas; union = same-union p q change same-rows ground; ground = ground }

@@ -12,7 +12,7 @@ use Rattle.join.specs.Join.{InJoin}
 use Rattle.join.specs.Theorems.{TableHolds}
 use Rattle.join.proofs.Theorems.{tables}
 use Rattle.symmetry.specs.Plans.{Plan}
-use Rattle.symmetry.specs.Theorems.{Accepted, layersIn, tableIn, SameSet}
+use Rattle.symmetry.specs.Theorems.{Accepted, grownLayers, tableIn, SameSet}
 use Rattle.symmetry.proofs.Sets.{same-sum, same-count}
 use Rattle.symmetry.proofs.Places.{Grounded, join-placed}
 use Rattle.symmetry.proofs.Sheets.{layers-count}
@@ -21,22 +21,22 @@ module _ (p : Plan) (a : Accepted p) where
   holds : TableHolds (sizesOf (p .shape)) (grown (p .shape) (p .cells))
   holds = tables .tables (sizesOf (p .shape)) (grown (p .shape) (p .cells)) (framed (p .shape) (p .cells) a .1)
 
-  pub row-join : (row : List ℕ) → List·Memᴰ row (tableIn p) → InJoin (layersIn p) row
+  pub row-join : (row : List ℕ) → List·Memᴰ row (tableIn p) → InJoin (grownLayers p) row
   row-join row m = holds .is .sound row m
 
-  pub join-row : (row : List ℕ) → InJoin (layersIn p) row → List·Memᴰ row (tableIn p)
+  pub join-row : (row : List ℕ) → InJoin (grownLayers p) row → List·Memᴰ row (tableIn p)
   join-row row j = holds .is .complete row j
 
   pub rows-once : Distinct (tableIn p)
   rows-once = holds .is .once
 
-  pub row-grounded : (row : List ℕ) → List·Memᴰ row (tableIn p) → Grounded (layersIn p) row
+  pub row-grounded : (row : List ℕ) → List·Memᴰ row (tableIn p) → Grounded (grownLayers p) row
   row-grounded row m =
       let h = holds .rows row m in
       record { within = row-join row m .within; intersection = h .intersection; some = h .some }
 
   -- there are k layers, and so k places
-  pub layers-k : length (layersIn p) ≡ p .shape .k
+  pub layers-k : length (grownLayers p) ≡ p .shape .k
   layers-k = layers-count (p .shape) (p .cells) a
 
   pub row-k : (row : List ℕ) → List·Memᴰ row (tableIn p) → length row ≡ p .shape .k

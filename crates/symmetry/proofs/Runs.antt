@@ -21,7 +21,7 @@ use Rattle.paging.specs.Theorems.{RunHolds}
 use Rattle.paging.proofs.Causes.{run-told, sound-ordered}
 use Rattle.paging.proofs.Runs.{run-holds}
 use Rattle.symmetry.specs.Plans.{Plan, arrangedRow, countedOn}
-use Rattle.symmetry.specs.Theorems.{Accepted, tableIn, areasIn, unionIn, SameSet, AcceptedToo, Rearranged, Cut, Lent, Ran, answer, handedOut}
+use Rattle.symmetry.specs.Theorems.{Accepted, tableIn, areasIn, unionIn, SameSet, AcceptedToo, Rearranged, Cut, Lent, Ran, runAnswer, handedOut}
 
 module _ (p : Plan) (l : Lent) (r : Ran p l) where
   -- the order is right, the table takes all rows, and the work buffer has two cells for each
@@ -32,20 +32,20 @@ module _ (p : Plan) (l : Lent) (r : Ran p l) where
   holds : RunHolds (p .shape) (p .cells) (overlay (p .shape) (p .cells)) (l .table) (runCause none (p .shape) (p .cells) (l .order) (l .table) (l .work)) (runCall none (p .shape) (p .cells) (l .order) (l .table) (l .work)) (runTable none (p .shape) (p .cells) (l .order) (l .table) (l .work))
   holds = run-holds (p .shape) (p .cells) (l .order) (l .table) (l .work) (sound-ordered (p .shape) (p .cells) (l .order) (r .0) (passed .0)) (passed .0) (passed .2)
 
-  run-count : answer p l .rows ≡ length (tableIn p)
+  run-count : runAnswer p l .rows ≡ length (tableIn p)
   run-count = ap (λ (v : Run). runValues v .rows) (holds .done (r .1))
 
   run-rows : handedOut p l ≡ tableIn p
   run-rows = ap (λ (n : ℕ). rowsIn (p .shape .k) n (runTable none (p .shape) (p .cells) (l .order) (l .table) (l .work))) run-count ∙ holds .rows (r .1)
 
-  run-area : answer p l .area ≡ totalOf (areasIn p)
+  run-area : runAnswer p l .area ≡ totalOf (areasIn p)
   unfolding totalOf
   run-area = ap (λ (v : Run). runValues v .area) (holds .done (r .1))
 
-  run-areas : valueOf (answer p l .area) ≡ areasIn p
+  run-areas : valueOf (runAnswer p l .area) ≡ areasIn p
   run-areas = ap valueOf run-area ∙ value-total (areasIn p)
 
-  run-ground : answer p l .ground ≡ totalOf (unionIn p)
+  run-ground : runAnswer p l .ground ≡ totalOf (unionIn p)
   unfolding totalOf
   run-ground = ap (λ (v : Run). runValues v .ground) (holds .done (r .1))
 
@@ -71,7 +71,7 @@ runs-too p q l (e, b) h r = (
 )
 
 pub runs-rearranged : (places : List ℕ) (p q : Plan) (l m : Lent) → Rearranged places p q → Ran p l → Ran q m
-    → SameSet (handedOut q m) (map (arrangedRow places) (handedOut p l)) × (answer q m .area ≡ answer p l .area) × (answer q m .ground ≡ answer p l .ground)
+    → SameSet (handedOut q m) (map (arrangedRow places) (handedOut p l)) × (runAnswer q m .area ≡ runAnswer p l .area) × (runAnswer q m .ground ≡ runAnswer p l .ground)
 runs-rearranged places p q l m h r s = (
   rw (run-rows p l r, run-rows q m s) (h .rows),
   run-area q m s ∙ (ap totalOf (h .areas) ∙ sym (run-area p l r)),
@@ -79,7 +79,7 @@ runs-rearranged places p q l m h r s = (
 )
 
 pub runs-cut : (j m n : ℕ) (p one two : Plan) (l a b : Lent) → Cut j m n p one two → Ran p l → Ran one a → Ran two b
-    → SameSet (handedOut p l) (handedOut one a ++ map (countedOn j m) (handedOut two b)) × (valueOf (answer one a .area) + valueOf (answer two b .area) ≡ valueOf (answer p l .area))
+    → SameSet (handedOut p l) (handedOut one a ++ map (countedOn j m) (handedOut two b)) × (valueOf (runAnswer one a .area) + valueOf (runAnswer two b .area) ≡ valueOf (runAnswer p l .area))
 runs-cut j m n p one two l a b c r s z = (
   rw (run-rows p l r, run-rows one a s, run-rows two b z) (c .rows),
   ap₂ _+_ (run-areas one a s) (run-areas two b z) ∙ (c .areas ∙ sym (run-areas p l r)),

@@ -24,21 +24,21 @@ abbrev pub Accepted : Plan → Type 0
 Accepted p = Sound (p .shape) (p .cells)
 
 -- its layers, grown
-abbrev pub layersIn : Plan → List Layer
-layersIn p = layers (p .shape) (p .cells)
+abbrev pub grownLayers : Plan → List Layer
+grownLayers p = layers (p .shape) (p .cells)
 
 -- its rows, the common ground of a row, the sum of the rows' areas, and the area of their union
 abbrev pub tableIn : Plan → List (List ℕ)
 tableIn p = planTable (p .shape) (p .cells)
 
 abbrev pub groundIn : Plan → List ℕ → Rect
-groundIn p row = commonOf (rects (layersIn p) row)
+groundIn p row = commonOf (rects (grownLayers p) row)
 
 abbrev pub areasIn : Plan → ℕ
-areasIn p = sum (map (areaIn (layersIn p)) (tableIn p))
+areasIn p = sum (map (areaIn (grownLayers p)) (tableIn p))
 
 abbrev pub unionIn : Plan → ℕ
-unionIn p = unionOf (grounds (layersIn p) (tableIn p))
+unionIn p = unionOf (grounds (grownLayers p) (tableIn p))
 
 -- ---- what becomes of the layers; this judges the definitions of specs/Plans.antt
 -- the layer at m as it is drawn, and its margin
@@ -123,12 +123,12 @@ module _ (p : Plan) (l : Lent) where
   Ran = Typed (p .shape) × (runCause none (p .shape) (p .cells) (l .order) (l .table) (l .work) ≡ 0)
 
   -- what it returns
-  abbrev pub answer : RunValues
-  answer = runValues (runCall none (p .shape) (p .cells) (l .order) (l .table) (l .work))
+  abbrev pub runAnswer : RunValues
+  runAnswer = runValues (runCall none (p .shape) (p .cells) (l .order) (l .table) (l .work))
 
   -- the rows that it hands out: k cells for each row that it reports, from its table as it left it
   abbrev pub handedOut : List (List ℕ)
-  handedOut = rowsIn (p .shape .k) (answer .rows) (runTable none (p .shape) (p .cells) (l .order) (l .table) (l .work))
+  handedOut = rowsIn (p .shape .k) (runAnswer .rows) (runTable none (p .shape) (p .cells) (l .order) (l .table) (l .work))
 
 -- ---- "Taking common ground is commutative, associative, and unchanged by the same rectangle again."
 pub record TakingGround : Type 0 where
@@ -154,11 +154,11 @@ pub record LayersInAnyOrder : Type 0 where
   pub ground : TakingGround
   -- so it is with what accepted whole runs hand out and return, with any orders, tables and work buffers
   pub runs : (places : List ℕ) (p q : Plan) (l m : Lent) → Rearranged places p q → Ran p l → Ran q m
-      → SameSet (handedOut q m) (map (arrangedRow places) (handedOut p l)) × (answer q m .area ≡ answer p l .area)
-      × (answer q m .ground ≡ answer p l .ground)
+      → SameSet (handedOut q m) (map (arrangedRow places) (handedOut p l)) × (runAnswer q m .area ≡ runAnswer p l .area)
+      × (runAnswer q m .ground ≡ runAnswer p l .ground)
   pub runs-cut : (j m n : ℕ) (p one two : Plan) (l a b : Lent) → Cut j m n p one two → Ran p l → Ran one a → Ran two b
       → SameSet (handedOut p l) (handedOut one a ++ map (countedOn j m) (handedOut two b))
-      × (valueOf (answer one a .area) + valueOf (answer two b .area) ≡ valueOf (answer p l .area))
+      × (valueOf (runAnswer one a .area) + valueOf (runAnswer two b .area) ≡ valueOf (runAnswer p l .area))
   -- and a table and work buffer that suffice for a plan suffice, with its sweep order, for one of as many layers and no more rows
   pub fits : (p q : Plan) (l : Lent) → AcceptedToo p q → length (tableIn q) ≤ length (tableIn p) → Ran p l
       → Ran q (record { order = sweepOrder (grown (q .shape) (q .cells)); table = l .table; work = l .work })

@@ -8,7 +8,7 @@ use native.Mathlib.Omega.{arith}
 use lib.IntN.{ℤ}
 use lib.ListN.{length, drop, length-drop, drop-of-length-le}
 use Rattle.lists.proofs.Tests.{clash}
-use Rattle.lists.specs.Stores.{Put}
+use Rattle.lists.specs.inner.Stores.{Put}
 use Rattle.lists.proofs.Stores.{Left, left-all, left-put, left-none, left-room}
 use Rattle.line.specs.declared.Line.{Line}
 use Rattle.line.specs.declared.Line.the-variants.{Plan, Layer, Rectangle}
@@ -16,7 +16,7 @@ use Rattle.line.specs.Parsing.{next, line}
 use Rattle.text.specs.Parsing.{allLines}
 use Rattle.text.specs.Plans.{cellsIn}
 use Rattle.line.specs.Places.{Line-at}
-use Rattle.text.specs.Filling.{restCells, LinesFit}
+use Rattle.text.specs.inner.Filling.{restCells, LinesFit}
 use Rattle.text.proofs.Parsing.{first-then, first-none}
 use Rattle.lists.specs.Lists.{isSome, listIn}
 

@@ -16,7 +16,7 @@ use Rattle.geometry.specs.Rectangles.{inRange}
 use Rattle.geometry.proofs.Integers.{zarith, size-law, one-side, nonNeg-law}
 use Rattle.plan.specs.Causes.{unless}
 use Rattle.text.specs.declared.Tally.{Tally}
-use Rattle.text.specs.Counting.{noneYet, unformed, spoilt, pick, upTo, layerRight, withLayer, addLayer, withRect, addRect, addLine, addLines, addIf, tallyFrom, Few, layersRight, tallyCause}
+use Rattle.text.specs.inner.Counting.{noneYet, unformed, spoilt, pick, upTo, layerRight, withLayer, addLayer, withRect, addRect, addLine, addLines, addIf, tallyFrom, Few, layersRight, tallyCause}
 use Rattle.line.specs.declared.Line.{Line}
 use Rattle.line.specs.declared.Line.the-variants.{Plan, Layer, Rectangle}
 use Rattle.line.specs.Parsing.{next, line}

@@ -22,8 +22,8 @@ use Rattle.text.specs.Parsing.{allLines, linesOf}
 use Rattle.text.specs.Plans.{cellsIn, shapeIn, agrees}
 use Rattle.text.specs.Reader.{linesCause, readCause, textShape, textCells}
 use Rattle.line.specs.Places.{Line-at}
-use Rattle.text.specs.Counting.{noneYet, unformed, addLayer, addRect, addLines, addIf, tallyFrom, tallyCause}
-use Rattle.text.specs.Filling.{restCells, refusedBy, Decided}
+use Rattle.text.specs.inner.Counting.{noneYet, unformed, addLayer, addRect, addLines, addIf, tallyFrom, tallyCause}
+use Rattle.text.specs.inner.Filling.{restCells, refusedBy, Decided}
 use Rattle.text.proofs.Parsing.{only, first-then, first-none}
 use Rattle.text.proofs.Counting.{few-none, few-lines}
 use Rattle.text.proofs.Sound.{counted-cells}

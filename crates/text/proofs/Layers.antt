@@ -9,7 +9,7 @@ use lib.ListN.{length, getD, take, drop, length-drop, drop-of-length-le}
 use lib.Seq.{drop-drop, length-take-le}
 use Rattle.lists.specs.Lists.{sum}
 use Rattle.lists.proofs.Tests.{both, and-true}
-use Rattle.lists.specs.Stores.{Put}
+use Rattle.lists.specs.inner.Stores.{Put}
 use Rattle.lists.proofs.Stores.{Left, left-all, left-none}
 use Rattle.decimal.proofs.Places.{at-byte}
 use Rattle.line.specs.declared.Line.{Line}

@@ -16,7 +16,7 @@ use Rattle.line.specs.declared.Line.the-variants.{Layer, Rectangle}
 use Rattle.line.specs.Lines.{spellTo, shortRect}
 use Rattle.text.specs.Spelling.{spell, allShort}
 use Rattle.text.specs.Plans.{rectLines}
-use Rattle.text.specs.Lengths.{layersLength}
+use Rattle.text.specs.inner.Lengths.{layersLength}
 use Rattle.line.proofs.Lengths.{spell-length, layer-most, rect-most}
 use Rattle.text.proofs.Sound.{next-rect}
 

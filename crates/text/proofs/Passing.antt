@@ -16,8 +16,8 @@ use Rattle.line.specs.declared.Line.{Line}
 use Rattle.line.specs.declared.Line.the-variants.{Plan, Layer, Rectangle}
 use Rattle.text.specs.declared.Tally.{Tally}
 use Rattle.text.specs.Spelling.{allInner}
-use Rattle.text.specs.Plans.{layerSizes, layerMargins, counted}
-use Rattle.text.specs.Counting.{spoilt, pick, upTo, layerRight, withLayer, addLayer, withRect, addRect, addLines}
+use Rattle.text.specs.Plans.{layerSizes, layerMargins, rectsAgree}
+use Rattle.text.specs.inner.Counting.{spoilt, pick, upTo, layerRight, withLayer, addLayer, withRect, addRect, addLines}
 use Rattle.text.proofs.Counting.{right}
 use Rattle.text.proofs.Sound.{Inside, inside-none, inside-layer, layer-inside, inside-rect, rect-inside}
 
@@ -32,7 +32,7 @@ pub record Tallied (ns ms : List ℕ) (t : Tally) : Type 0 where
 
 -- the lines are right where `due` RECT lines are to come and there are `layers` already
 pub record Fits (due layers : ℕ) (ls : List Line) : Type 0 where
-  pub count : counted due ls ≡ true
+  pub count : rectsAgree due ls ≡ true
   pub few : layers + length (layerSizes ls) ≤ 6
   pub inside : Inside ls
 
@@ -84,7 +84,7 @@ passes ns ms t (Plan k ∷ ls) g d f = clash (f .count) refl
 passes ns ms t (Layer (negsuc n) m ∷ ls) g d f = clash (f .count) refl
 passes ns ms t (Layer (pos n) (negsuc m) ∷ ls) g d f = clash (f .count) refl
 passes ns ms t (Layer (pos n) (pos m) ∷ ls) g d f =
-    let c = both (eqb (t .due) 0) (counted n ls) (f .count) in
+    let c = both (eqb (t .due) 0) (rectsAgree n ls) (f .count) in
     let s = inside-layer (f .inside) in
     let h : t .layers < 6 = omega (arith, f .few) in
     let r = passes (ns ++ n ∷ []) (ms ++ m ∷ []) (withLayer t n m) ls g (tallied-layer ns ms t n m h d) (record { count = c .1; few = omega (arith, f .few); inside = s .2 }) in
@@ -92,13 +92,13 @@ passes ns ms t (Layer (pos n) (pos m) ∷ ls) g d f =
     (rw (append-assoc ns (n ∷ []) (layerSizes ls), append-assoc ms (m ∷ []) (layerMargins ls)) at r)
 passes ns ms t (Rectangle r ∷ ls) g d f = go (t .due) refl (f .count) (passes ns ms (withRect t) ls g (tallied-rect ns ms t d))
   where
-    go : (due : ℕ) → t .due ≡ due → counted due (Rectangle r ∷ ls) ≡ true
+    go : (due : ℕ) → t .due ≡ due → rectsAgree due (Rectangle r ∷ ls) ≡ true
         → (Fits (t .due - 1) (t .layers) ls → Passed (ns ++ layerSizes ls) (ms ++ layerMargins ls) (addLines (withRect t) ls)) → Passed (ns ++ layerSizes ls) (ms ++ layerMargins ls) (addLines (addRect t r) ls)
     go zero e c p = clash c refl
     go (suc due) e c p =
         let k = inside-rect (f .inside) in
         let q : due ≡ t .due - 1 = omega arith in
-        let w = p (record { count = subst (λ (m : ℕ). counted m ls ≡ true) q c; few = f .few; inside = k .1 }) in
+        let w = p (record { count = subst (λ (m : ℕ). rectsAgree m ls ≡ true) q c; few = f .few; inside = k .1 }) in
         subst (λ (u : Tally). Passed (ns ++ layerSizes ls) (ms ++ layerMargins ls) (addLines u ls)) (sym (rect-is t r (omega arith) (k .0))) w
 
 -- ---- and only right lines do
@@ -139,7 +139,7 @@ passed t (Layer (pos n) (pos m) ∷ ls) i g d h =
     let e = layer-is t (pos n) (pos m) y in
     let f : Fits n (t .layers + 1) ls = passed (withLayer t n m) ls i (sym (ap (λ (u : Tally). addLines u ls .good) e) ∙ g) (sym (ap (λ (u : Tally). addLines u ls .due) e) ∙ d) (omega (arith, r .layers)) in
     record {
-      count = and-true (eqb (t .due) 0) (counted n ls) (eq-eqb (t .due) 0 (r .due)) (f .count);
+      count = and-true (eqb (t .due) 0) (rectsAgree n ls) (eq-eqb (t .due) 0 (r .due)) (f .count);
       few = omega (arith, f .few);
       inside = layer-inside (r .size .size) (r .margin .size) (f .inside);
     }
@@ -151,7 +151,7 @@ passed t (Rectangle r ∷ ls) i g d h =
     let f : Fits (t .due - 1) (t .layers) ls = passed (withRect t) ls i (sym (ap (λ (u : Tally). addLines u ls .good) e) ∙ g) (sym (ap (λ (u : Tally). addLines u ls .due) e) ∙ d) h in
     let q : t .due ≡ suc (t .due - 1) = omega arith in
     record {
-      count = subst (λ (m : ℕ). counted m (Rectangle r ∷ ls) ≡ true) (sym q) (f .count);
+      count = subst (λ (m : ℕ). rectsAgree m (Rectangle r ∷ ls) ≡ true) (sym q) (f .count);
       few = f .few;
       inside = rect-inside (b .1) (f .inside);
     }

@@ -23,7 +23,7 @@ use Rattle.line.specs.declared.Line.{Line}
 use Rattle.line.specs.declared.Line.the-variants.{Plan, Layer, Rectangle}
 use Rattle.line.proofs.Lengths.{plan-length, spell-length}
 use Rattle.text.specs.Spelling.{spell, allInner, headed, allShort}
-use Rattle.text.specs.Plans.{rectLines, layerLines, planLines, layerSizes, layerMargins, cellsIn, shapeIn, counted, agrees}
+use Rattle.text.specs.Plans.{rectLines, layerLines, planLines, layerSizes, layerMargins, cellsIn, shapeIn, rectsAgree, agrees}
 use Rattle.text.proofs.Sound.{Inside, passed-sound, lines-inside}
 use Rattle.text.proofs.Sizes.{lines-short, lines-long}
 
@@ -31,7 +31,7 @@ use Rattle.text.proofs.Sizes.{lines-short, lines-long}
 -- lines that give these sizes, margins and cells, where `due` RECT lines come first
 pub record Gives (due : ℕ) (ns ms : List ℕ) (plan : List ℤ) (ls : List Line) : Type 0 where
   pub inner : allInner ls ≡ true
-  pub count : counted due ls ≡ true
+  pub count : rectsAgree due ls ≡ true
   pub sizes : layerSizes ls ≡ ns
   pub margins : layerMargins ls ≡ ms
   pub cells : cellsIn ls ≡ plan
@@ -110,8 +110,8 @@ module _ (s : Shape) (plan : List ℤ) (sound : Sound s plan) where
   pub plan-agrees : agrees (planLines s plan) ≡ true
   unfolding agrees planLines
   plan-agrees =
-      and-true (eqb (length (layerSizes behind)) (s .k) && counted 0 behind) (eqb (planCause (shapeIn (planLines s plan)) (cellsIn behind)) 0)
-      (and-true (eqb (length (layerSizes behind)) (s .k)) (counted 0 behind) (eq-eqb (length (layerSizes behind)) (s .k) count) (gives .count))
+      and-true (eqb (length (layerSizes behind)) (s .k) && rectsAgree 0 behind) (eqb (planCause (shapeIn (planLines s plan)) (cellsIn behind)) 0)
+      (and-true (eqb (length (layerSizes behind)) (s .k)) (rectsAgree 0 behind) (eq-eqb (length (layerSizes behind)) (s .k) count) (gives .count))
       (eq-eqb (planCause (shapeIn (planLines s plan)) (cellsIn behind)) 0 given-back)
 
   inside : Inside behind
@@ -144,14 +144,14 @@ module _ (s : Shape) (plan : List ℤ) (sound : Sound s plan) where
   plan-headed = gives .inner
 
 -- ---- from lines to a plan
-pub lines-are : (due : ℕ) (ls : List Line) → counted due ls ≡ true → ls ≡ rectLines (take (4 * due) (cellsIn ls)) ++ layerLines (layerSizes ls) (layerMargins ls) (drop (4 * due) (cellsIn ls))
+pub lines-are : (due : ℕ) (ls : List Line) → rectsAgree due ls ≡ true → ls ≡ rectLines (take (4 * due) (cellsIn ls)) ++ layerLines (layerSizes ls) (layerMargins ls) (drop (4 * due) (cellsIn ls))
 lines-are zero [] e = refl
 lines-are (suc due) [] e = absurd (omega (arith, eqb-true (suc due) 0 e))
 lines-are due (Plan k ∷ ls) e = clash e refl
 lines-are due (Layer (negsuc n) m ∷ ls) e = clash e refl
 lines-are due (Layer (pos n) (negsuc m) ∷ ls) e = clash e refl
 lines-are zero (Layer (pos n) (pos m) ∷ ls) e = ap (λ (l : List Line). Layer (pos n) (pos m) ∷ l) (lines-are n ls e)
-lines-are (suc due) (Layer (pos n) (pos m) ∷ ls) e = absurd (omega (arith, eqb-true (suc due) 0 (both (eqb (suc due) 0) (counted n ls) e .0)))
+lines-are (suc due) (Layer (pos n) (pos m) ∷ ls) e = absurd (omega (arith, eqb-true (suc due) 0 (both (eqb (suc due) 0) (rectsAgree n ls) e .0)))
 lines-are zero (Rectangle r ∷ ls) e = clash e refl
 lines-are (suc due) (Rectangle r ∷ ls) e =
     let q : 4 * suc due ≡ suc (suc (suc (suc (4 * due)))) = omega arith in

@@ -4,14 +4,14 @@ use mathlib.Core.List.{List, _++_}
 use Prim.Native.Nat.{ℕ, zero, suc}
 use lib.IntN.{ℤ}
 use lib.ListN.{length, drop}
-use Rattle.lists.specs.Stores.{Put}
+use Rattle.lists.specs.inner.Stores.{Put}
 use Rattle.lists.proofs.Stores.{put-start}
 use Rattle.plan.specs.declared.Shape.{Shape}
 use Rattle.plan.specs.Causes.{onCause}
 use Rattle.text.specs.declared.Reading.{Reading}
 use Rattle.text.specs.declared.Decision.{Decision}
 use Rattle.text.specs.Reader.{readCause, textShape, textCells, noShape, readAnswer, cellsAfter}
-use Rattle.text.specs.Filling.{restCells, Decided}
+use Rattle.text.specs.inner.Filling.{restCells, Decided}
 
 -- the number in an answer is its cause
 number-is : (cause : ℕ) (s : Shape) → onCause {A = Reading} cause (record { number = 0; shape = s }) (λ n. record { number = n; shape = noShape }) .number ≡ cause

@@ -7,7 +7,7 @@ use native.Mathlib.Omega.{arith}
 use native.Mathlib.Numerals.{add-one}
 use lib.IntN.{ℤ}
 use lib.ListN.{length, drop}
-use Rattle.lists.specs.Stores.{Put}
+use Rattle.lists.specs.inner.Stores.{Put}
 use Rattle.lists.proofs.Stores.{Left, left-all, left-none}
 use Rattle.lists.proofs.Tests.{both}
 use Rattle.plan.specs.Plan.{rectAt}

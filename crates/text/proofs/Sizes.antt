@@ -22,7 +22,7 @@ use Rattle.line.specs.declared.Line.the-variants.{Plan, Layer, Rectangle}
 use Rattle.line.specs.Lines.{spellTo, shortRect}
 use Rattle.line.proofs.Lengths.{rect-length, layer-length, spell-length}
 use Rattle.text.specs.Spelling.{spell, allShort}
-use Rattle.text.specs.Plans.{layerSizes, counted}
+use Rattle.text.specs.Plans.{layerSizes, rectsAgree}
 use Rattle.text.proofs.Sound.{Inside, inside-layer, inside-rect}
 
 -- ---- digits
@@ -39,14 +39,14 @@ rect-short r h =
       coordinate-short (r .top) (g .top),
     )
 
-pub lines-short : (due : ℕ) (ls : List Line) → counted due ls ≡ true → Inside ls → allShort ls ≡ true
+pub lines-short : (due : ℕ) (ls : List Line) → rectsAgree due ls ≡ true → Inside ls → allShort ls ≡ true
 lines-short due [] e i = refl
 lines-short due (Plan k ∷ ls) e i = clash e refl
 lines-short due (Layer (negsuc n) m ∷ ls) e i = clash e refl
 lines-short due (Layer (pos n) (negsuc m) ∷ ls) e i = clash e refl
 lines-short due (Layer (pos n) (pos m) ∷ ls) e i =
     let b = inside-layer i in
-    rw (lt-ltb n (10 ^ mostDigits) (omega (arith, b .0)), lt-ltb m (10 ^ mostDigits) (omega (arith, b .1))) (lines-short n ls (both (eqb due 0) (counted n ls) e .1) (b .2))
+    rw (lt-ltb n (10 ^ mostDigits) (omega (arith, b .0)), lt-ltb m (10 ^ mostDigits) (omega (arith, b .1))) (lines-short n ls (both (eqb due 0) (rectsAgree n ls) e .1) (b .2))
 lines-short zero (Rectangle q ∷ ls) e i = clash e refl
 lines-short (suc due) (Rectangle q ∷ ls) e i = let b = inside-rect i in rw (rect-short q (b .0)) (lines-short due ls e (b .1))
 
@@ -59,14 +59,14 @@ rect-long r h =
     let g = geometry.ranged r h in
     omega (arith, rect-length r, coordinate-long (r .left) (g .left), coordinate-long (r .bottom) (g .bottom), coordinate-long (r .right) (g .right), coordinate-long (r .top) (g .top))
 
-pub lines-long : (due : ℕ) (ls : List Line) → counted due ls ≡ true → Inside ls → length (spell ls) ≤ 16 * length (layerSizes ls) + 45 * (due + sum (layerSizes ls))
+pub lines-long : (due : ℕ) (ls : List Line) → rectsAgree due ls ≡ true → Inside ls → length (spell ls) ≤ 16 * length (layerSizes ls) + 45 * (due + sum (layerSizes ls))
 lines-long due [] e i = omega arith
 lines-long due (Plan k ∷ ls) e i = clash e refl
 lines-long due (Layer (negsuc n) m ∷ ls) e i = clash e refl
 lines-long due (Layer (pos n) (negsuc m) ∷ ls) e i = clash e refl
 lines-long due (Layer (pos n) (pos m) ∷ ls) e i =
     let b = inside-layer i in
-    let r = lines-long n ls (both (eqb due 0) (counted n ls) e .1) (b .2) in
+    let r = lines-long n ls (both (eqb due 0) (rectsAgree n ls) e .1) (b .2) in
     omega (arith, spell-length (Layer (pos n) (pos m)) (spell ls), layer-length n m, size-below 2 n (lit≤ tt) (omega (arith, b .0)), size-below 4 m (lit≤ tt) (omega (arith, b .1)))
 lines-long zero (Rectangle q ∷ ls) e i = clash e refl
 lines-long (suc due) (Rectangle q ∷ ls) e i =

@@ -18,7 +18,7 @@ use Rattle.plan.specs.Plan.{rectAt, count, fitsAt, allFit, allRanged, planCause
 use Rattle.plan.proofs.Plan.{Checked}
 use Rattle.line.specs.declared.Line.{Line}
 use Rattle.line.specs.declared.Line.the-variants.{Plan, Layer, Rectangle}
-use Rattle.text.specs.Plans.{layerSizes, layerMargins, cellsIn, shapeIn, counted}
+use Rattle.text.specs.Plans.{layerSizes, layerMargins, cellsIn, shapeIn, rectsAgree}
 
 -- each number is at most m
 abbrev small : ℕ → List ℕ → Bool
@@ -94,11 +94,11 @@ margins-many (Layer n m ∷ ls) = ap suc (margins-many ls)
 margins-many (Rectangle r ∷ ls) = margins-many ls
 
 -- ---- cells
-pub counted-cells : (due : ℕ) (ls : List Line) → counted due ls ≡ true → length (cellsIn ls) ≡ 4 * (due + sum (layerSizes ls))
+pub counted-cells : (due : ℕ) (ls : List Line) → rectsAgree due ls ≡ true → length (cellsIn ls) ≡ 4 * (due + sum (layerSizes ls))
 counted-cells due [] e = omega (arith, eqb-true due 0 e)
 counted-cells due (Plan k ∷ ls) e = clash e refl
 counted-cells due (Layer (pos n) (pos m) ∷ ls) e =
-    let b = both (eqb due 0) (counted n ls) e in
+    let b = both (eqb due 0) (rectsAgree n ls) e in
     omega (arith, eqb-true due 0 (b .0), counted-cells n ls (b .1))
 counted-cells due (Layer (pos n) (negsuc m) ∷ ls) e = clash e refl
 counted-cells due (Layer (negsuc n) m ∷ ls) e = clash e refl
@@ -138,7 +138,7 @@ pub passed-sound : (ls : List Line) → planCause (shapeIn ls) (cellsIn ls) ≡ 
 unfolding shapeIn
 passed-sound ls e = record { typed = record { sizes = padded-long 6 (layerSizes ls); margins = padded-long 6 (layerMargins ls) }; passed = e }
 
-module _ (k : ℕ) (ls : List Line) (layers : length (layerSizes ls) ≡ k) (high : k ≤ 6) (count : counted 0 ls ≡ true) where
+module _ (k : ℕ) (ls : List Line) (layers : length (layerSizes ls) ≡ k) (high : k ≤ 6) (count : rectsAgree 0 ls ≡ true) where
   abbrev shape : Shape
   shape = record { k = k; sizes = padded 6 (layerSizes ls); margins = padded 6 (layerMargins ls) }
 

@@ -17,7 +17,7 @@ use Rattle.line.specs.declared.Line.the-variants.{Plan, Layer, Rectangle}
 use Rattle.line.specs.Lines.{spellTo}
 use Rattle.text.specs.Spelling.{spell, allShort}
 use Rattle.text.specs.Plans.{rectLines, layerLines, planLines, textOf}
-use Rattle.text.specs.Lengths.{layersLength}
+use Rattle.text.specs.inner.Lengths.{layersLength}
 use Rattle.text.proofs.Sound.{next-rect}
 use Rattle.text.proofs.Spelling.{spell-++}
 use Rattle.text.proofs.Sizes.{rect-short}

@@ -33,7 +33,7 @@ use Rattle.line.specs.Theorems.{Starts}
 use Rattle.line.proofs.Theorems.{starts, started, old-line}
 use Rattle.text.specs.Spelling.{spell, inner, allInner, headed, allShort}
 use Rattle.text.specs.Parsing.{linesOf}
-use Rattle.text.specs.Plans.{layerLines, planLines, textOf, layerSizes, layerMargins, cellsIn, shapeIn, counted, wellCounted, agrees}
+use Rattle.text.specs.Plans.{layerLines, planLines, textOf, layerSizes, layerMargins, cellsIn, shapeIn, rectsAgree, wellCounted, agrees}
 use Rattle.text.specs.Reader.{linesCause, readCause, textShape, textCells, readAnswer, cellsAfter}
 use Rattle.text.specs.Theorems.{Others, layer, rect, Formed, PlanText, RoundTrip}
 use Rattle.text.specs.Theorems as Theorems
@@ -78,8 +78,8 @@ headed-lines (Layer n m ∷ ls) e = clash e refl
 headed-lines (Rectangle r ∷ ls) e = clash e refl
 headed-lines (Plan (negsuc k) ∷ ls) e = clash e refl
 headed-lines (Plan (pos k) ∷ ls) e =
-    let b = both (eqb (length (layerSizes ls)) k && counted 0 ls) (eqb (planCause (shapeIn (Plan (pos k) ∷ ls)) (cellsIn ls)) 0) e in
-    let c = both (eqb (length (layerSizes ls)) k) (counted 0 ls) (b .0) in
+    let b = both (eqb (length (layerSizes ls)) k && rectsAgree 0 ls) (eqb (planCause (shapeIn (Plan (pos k) ∷ ls)) (cellsIn ls)) 0) e in
+    let c = both (eqb (length (layerSizes ls)) k) (rectsAgree 0 ls) (b .0) in
     let l = eqb-true (length (layerSizes ls)) k (c .0) in
     let f = checked (shapeIn (Plan (pos k) ∷ ls)) (cellsIn ls) (passed-sound (Plan (pos k) ∷ ls) (eqb-true (planCause (shapeIn (Plan (pos k) ∷ ls)) (cellsIn ls)) 0 (b .1))) in
     let n = front (layerSizes ls) k l (f .high) in
@@ -215,16 +215,16 @@ old room t f a n rest p =
 
 -- ---- numbers out of range
 -- lines behind others are counted and in range where all are
-part-inside : (due : ℕ) (front rest : List Line) → counted due (front ++ rest) ≡ true → Inside (front ++ rest) → (d : ℕ) × (counted d rest ≡ true) × Inside rest
+part-inside : (due : ℕ) (front rest : List Line) → rectsAgree due (front ++ rest) ≡ true → Inside (front ++ rest) → (d : ℕ) × (rectsAgree d rest ≡ true) × Inside rest
 part-inside due [] rest c i = (due, c, i)
 part-inside due (Plan k ∷ front) rest c i = clash c refl
 part-inside due (Layer (negsuc a) b ∷ front) rest c i = clash c refl
 part-inside due (Layer (pos a) (negsuc b) ∷ front) rest c i = clash c refl
-part-inside due (Layer (pos a) (pos b) ∷ front) rest c i = part-inside a front rest (both (eqb due 0) (counted a (front ++ rest)) c .1) (inside-layer i .2)
+part-inside due (Layer (pos a) (pos b) ∷ front) rest c i = part-inside a front rest (both (eqb due 0) (rectsAgree a (front ++ rest)) c .1) (inside-layer i .2)
 part-inside zero (Rectangle r ∷ front) rest c i = clash c refl
 part-inside (suc due) (Rectangle r ∷ front) rest c i = part-inside due front rest c (inside-rect i .1)
 
-part-agrees : (front : List Line) (l : Line) (back : List Line) → inner l ≡ true → agrees (front ++ l ∷ back) ≡ true → (d : ℕ) × (counted d (l ∷ back) ≡ true) × Inside (l ∷ back)
+part-agrees : (front : List Line) (l : Line) (back : List Line) → inner l ≡ true → agrees (front ++ l ∷ back) ≡ true → (d : ℕ) × (rectsAgree d (l ∷ back) ≡ true) × Inside (l ∷ back)
 part-agrees [] (Plan k) back i e = clash i refl
 part-agrees [] (Layer n m) back i e = clash e (unfold agrees in refl)
 part-agrees [] (Rectangle r) back i e = clash e (unfold agrees in refl)
@@ -234,7 +234,7 @@ part-agrees (Plan (negsuc k) ∷ front) l back i e = clash e (unfold agrees in r
 part-agrees (Plan (pos k) ∷ front) l back i e = let a = agreed k (front ++ l ∷ back) e in part-inside 0 front (l ∷ back) (a .count) (a .inside)
 
 -- a margin is from 0 to 50,000
-margin-inside : (due : ℕ) (n m : ℤ) (back : List Line) → counted due (Layer n m ∷ back) ≡ true → Inside (Layer n m ∷ back) → (pos 0 ≤ℤ m) × (m ≤ℤ pos 50000)
+margin-inside : (due : ℕ) (n m : ℤ) (back : List Line) → rectsAgree due (Layer n m ∷ back) ≡ true → Inside (Layer n m ∷ back) → (pos 0 ≤ℤ m) × (m ≤ℤ pos 50000)
 margin-inside due (negsuc n) m back c i = clash c refl
 margin-inside due (pos n) (negsuc m) back c i = clash c refl
 margin-inside due (pos n) (pos m) back c i = let b = inside-layer i in (omega zarith, omega (zarith, b .1))
@@ -264,7 +264,7 @@ parted l (k ∷ ls) m = go (λ n. parted l ls n) (List·Memᴰ·cases-cons m)
 
 -- a line of lines that agree is counted and in range
 member-inside : (k : ℤ) (ls : List Line) (l : Line) → inner l ≡ true → List·Memᴰ l ls → agrees (Plan k ∷ ls) ≡ true
-    → (back : List Line) × (d : ℕ) × (counted d (l ∷ back) ≡ true) × Inside (l ∷ back)
+    → (back : List Line) × (d : ℕ) × (rectsAgree d (l ∷ back) ≡ true) × Inside (l ∷ back)
 member-inside k ls l i m e =
     let p = parted l ls m in
     let h = part-agrees (Plan k ∷ p .front) l (p .back) i (subst (λ (js : List Line). agrees (Plan k ∷ js) ≡ true) (p .whole) e) in

@@ -16,8 +16,8 @@ use Rattle.line.specs.declared.Line.{Line}
 use Rattle.line.specs.declared.Line.the-variants.{Plan, Layer, Rectangle}
 use Rattle.text.specs.declared.Tally.{Tally}
 use Rattle.text.specs.Spelling.{allInner}
-use Rattle.text.specs.Plans.{layerSizes, layerMargins, cellsIn, shapeIn, counted, agrees}
-use Rattle.text.specs.Counting.{noneYet, addLayer, addRect, addLines, layersRight, tallyCause}
+use Rattle.text.specs.Plans.{layerSizes, layerMargins, cellsIn, shapeIn, rectsAgree, agrees}
+use Rattle.text.specs.inner.Counting.{noneYet, addLayer, addRect, addLines, layersRight, tallyCause}
 use Rattle.text.proofs.Counting.{layer-formed, rect-formed}
 use Rattle.text.proofs.Sound.{Inside, passed-sound, sound-lines, lines-inside}
 use Rattle.text.proofs.Passing.{Tallied, Passed, passes, passed}
@@ -40,7 +40,7 @@ pub record Agreed (k : ℕ) (ls : List Line) : Type 0 where
   pub low : 2 ≤ k
   pub high : k ≤ 6
   pub layers : length (layerSizes ls) ≡ k
-  pub count : counted 0 ls ≡ true
+  pub count : rectsAgree 0 ls ≡ true
   pub inside : Inside ls
   pub tally : Passed (layerSizes ls) (layerMargins ls) (addLines noneYet ls)
 
@@ -48,8 +48,8 @@ module _ (k : ℕ) (ls : List Line) where
   pub agreed : agrees (Plan (pos k) ∷ ls) ≡ true → Agreed k ls
   unfolding agrees shapeIn
   agreed e =
-      let b = both (eqb (length (layerSizes ls)) k && counted 0 ls) (eqb (planCause (shapeIn (Plan (pos k) ∷ ls)) (cellsIn ls)) 0) e in
-      let c = both (eqb (length (layerSizes ls)) k) (counted 0 ls) (b .0) in
+      let b = both (eqb (length (layerSizes ls)) k && rectsAgree 0 ls) (eqb (planCause (shapeIn (Plan (pos k) ∷ ls)) (cellsIn ls)) 0) e in
+      let c = both (eqb (length (layerSizes ls)) k) (rectsAgree 0 ls) (b .0) in
       let l = eqb-true (length (layerSizes ls)) k (c .0) in
       let s = checked (shapeIn (Plan (pos k) ∷ ls)) (cellsIn ls) (passed-sound (Plan (pos k) ∷ ls) (eqb-true (planCause (shapeIn (Plan (pos k) ∷ ls)) (cellsIn ls)) 0 (b .1))) in
       let i = lines-inside k ls l (s .high) (c .1) s in

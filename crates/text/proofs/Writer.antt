@@ -8,18 +8,18 @@ use lib.ListN.{length}
 use borrow.Author.Tests.{le-leb, lt-leb}
 use Rattle.plan.specs.declared.Shape.{Shape}
 use Rattle.plan.specs.Plan.{planCause}
-use Rattle.lists.specs.Stores.{Put}
+use Rattle.lists.specs.inner.Stores.{Put}
 use Rattle.lists.proofs.Stores.{put-start}
 use Rattle.text.specs.declared.Writing.{Writing}
 use Rattle.text.specs.declared.Writing.the-variants.{Written, Refused}
 use Rattle.text.specs.Plans.{textOf}
-use Rattle.text.specs.Writer.{writeCause, writeAnswer, numberOf, bufferAfter}
+use Rattle.text.specs.Writer.{writeCause, writeAnswer, numberSaid, bufferAfter}
 
 module _ (s : Shape) (cells : List ℤ) (buf : List ℕ) where
   -- what the contract says of an answer and of the buffer afterwards
   abbrev Answered : Writing → List ℕ → Type 0
   Answered w after =
-      (w ≡ writeAnswer s cells (length buf)) × ((numberOf w ≡ writeCause s cells (length buf)) × (after ≡ bufferAfter s cells buf))
+      (w ≡ writeAnswer s cells (length buf)) × ((numberSaid w ≡ writeCause s cells (length buf)) × (after ≡ bufferAfter s cells buf))
 
   refused : (cause : ℕ) → (cause ≡ 0 → ⊥) → writeCause s cells (length buf) ≡ cause → Answered (Refused cause) buf
   refused zero n e = absurd (n refl)

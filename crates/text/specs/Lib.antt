@@ -4,6 +4,4 @@ pub mod Plans
 pub mod Reader
 pub mod Writer
 pub mod Theorems
-pub mod Counting
-pub mod Filling
-pub mod Lengths
+pub mod inner

@@ -40,11 +40,11 @@ textOf s cells = spell (planLines s cells)
 -- ---- from lines to a plan
 
 -- the k that the PLAN line gives
-abbrev pub layersIn : List Line → ℕ
-layersIn [] = 0
-layersIn (Plan k ∷ ls) = natAbs k
-layersIn (Layer n m ∷ ls) = 0
-layersIn (Rectangle b ∷ ls) = 0
+abbrev pub statedLayers : List Line → ℕ
+statedLayers [] = 0
+statedLayers (Plan k ∷ ls) = natAbs k
+statedLayers (Layer n m ∷ ls) = 0
+statedLayers (Rectangle b ∷ ls) = 0
 
 -- the sizes that the LAYER lines give
 abbrev pub layerSizes : List Line → List ℕ
@@ -69,22 +69,22 @@ cellsIn (Rectangle b ∷ ls) = b .left ∷ b .bottom ∷ b .right ∷ b .top ∷
 
 -- the shape that lines give: sizes and margins past the last layer are 0
 unfoldable pub shapeIn : List Line → Shape
-shapeIn ls = record { k = layersIn ls; sizes = padded 6 (layerSizes ls); margins = padded 6 (layerMargins ls) }
+shapeIn ls = record { k = statedLayers ls; sizes = padded 6 (layerSizes ls); margins = padded 6 (layerMargins ls) }
 
 -- `due` RECT lines come first, and behind each LAYER line as many as it says. A size or a margin below 0 is no plan's
-abbrev pub counted : ℕ → List Line → Bool
-counted due [] = eqb due 0
-counted due (Plan k ∷ ls) = false
-counted due (Layer (pos n) (pos m) ∷ ls) = eqb due 0 && counted n ls
-counted due (Layer (pos n) (negsuc m) ∷ ls) = false
-counted due (Layer (negsuc n) m ∷ ls) = false
-counted zero (Rectangle b ∷ ls) = false
-counted (suc due) (Rectangle b ∷ ls) = counted due ls
+abbrev pub rectsAgree : ℕ → List Line → Bool
+rectsAgree due [] = eqb due 0
+rectsAgree due (Plan k ∷ ls) = false
+rectsAgree due (Layer (pos n) (pos m) ∷ ls) = eqb due 0 && rectsAgree n ls
+rectsAgree due (Layer (pos n) (negsuc m) ∷ ls) = false
+rectsAgree due (Layer (negsuc n) m ∷ ls) = false
+rectsAgree zero (Rectangle b ∷ ls) = false
+rectsAgree (suc due) (Rectangle b ∷ ls) = rectsAgree due ls
 
 -- the PLAN line says how many LAYER lines there are, and the others are counted
 abbrev pub wellCounted : List Line → Bool
 wellCounted [] = false
-wellCounted (Plan (pos k) ∷ ls) = eqb (length (layerSizes ls)) k && counted 0 ls
+wellCounted (Plan (pos k) ∷ ls) = eqb (length (layerSizes ls)) k && rectsAgree 0 ls
 wellCounted (Plan (negsuc k) ∷ ls) = false
 wellCounted (Layer n m ∷ ls) = false
 wellCounted (Rectangle b ∷ ls) = false

@@ -18,7 +18,7 @@ use Rattle.line.specs.declared.Line.the-variants.{Plan, Layer, Rectangle}
 use Rattle.line.specs.Theorems.{Starts}
 use Rattle.text.specs.declared.Writing.the-variants.{Written, Refused}
 use Rattle.text.specs.Plans.{textOf}
-use Rattle.text.specs.Writer.{writeCause, writeAnswer, numberOf, lengthOf, bufferAfter}
+use Rattle.text.specs.Writer.{writeCause, writeAnswer, numberSaid, lengthOf, bufferAfter}
 use Rattle.text.specs.Reader.{readCause, readAnswer, cellsAfter}
 
 -- ---- well formed, in bytes: which bytes are a line is said by `Starts` (crate line)
@@ -83,4 +83,4 @@ pub record RoundTrip : Type 0 where
       → (readAnswer (length cells) t ≡ record { number = suc n; shape = record { k = 0; sizes = zeros; margins = zeros } })
       × (cellsAfter t cells ≡ cells)
   -- the number and the length that the writer's answers stand for
-  pub values : (n : ℕ) → (numberOf (Written n) ≡ 0) × (lengthOf (Written n) ≡ n) × (numberOf (Refused n) ≡ n) × (lengthOf (Refused n) ≡ 0)
+  pub values : (n : ℕ) → (numberSaid (Written n) ≡ 0) × (lengthOf (Written n) ≡ n) × (numberSaid (Refused n) ≡ n) × (lengthOf (Refused n) ≡ 0)

@@ -20,9 +20,9 @@ abbrev pub writeAnswer : Shape → List ℤ → ℕ → Writing
 writeAnswer s cells room = onCause (writeCause s cells room) (Written (length (textOf s cells))) Refused
 
 -- 01's number of each answer
-abbrev pub numberOf : Writing → ℕ
-numberOf (Written size) = 0
-numberOf (Refused cause) = cause
+abbrev pub numberSaid : Writing → ℕ
+numberSaid (Written size) = 0
+numberSaid (Refused cause) = cause
 
 -- the length of each answer, 0 for a refusal
 abbrev pub lengthOf : Writing → ℕ

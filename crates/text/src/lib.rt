@@ -1,5 +1,6 @@
 // The plan text. Which texts are well formed, and what reading and writing one answers, is defined in specs/; the code is in the crates `reader` and `writer`.
 
+use plan::MOST_LAYERS;
 use plan::Shape;
 
 // What the reader's first pass has found: well formed and nothing wrong so far, RECT lines due, layers, rectangles in all, sizes, margins.
@@ -9,8 +10,8 @@ pub struct Tally {
     pub due: u32,
     pub layers: usize,
     pub rects: usize,
-    pub sizes: [u32; 6],
-    pub margins: [u32; 6],
+    pub sizes: [u32; MOST_LAYERS],
+    pub margins: [u32; MOST_LAYERS],
 }
 
 // What the reader answers: a cause's number, or 0 and the plan's shape.

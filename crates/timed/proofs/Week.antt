@@ -17,7 +17,7 @@ use Rattle.plan.proofs.Spots.{number-small, size-of, layers-long, has-layer}
 use Rattle.sweep.specs.Sweep.{sweepOrder}
 use Rattle.sweep.proofs.Sweep.{sweep-is}
 use Rattle.sweep.proofs.Spots.{plan-has}
-use Rattle.search.specs.Zipper.{sizeIn}
+use Rattle.search.specs.inner.Zipper.{sizeIn}
 use Rattle.search.specs.Names.{Sublist, nameOf, oldProbe}
 use Rattle.search.proofs.Narrowing.{Idle, idle-at}
 use Rattle.search.proofs.Beside.{narrowed-old, narrowed-sub, sub-short}
@@ -26,7 +26,7 @@ use Rattle.walk.specs.Passes.{slotLayer}
 use Rattle.walk.proofs.Passes.{others-at, slot-size}
 use Rattle.windows.specs.declared.Window.{Window}
 use Rattle.windows.specs.Windows.{windowAt, both, layerHours}
-use Rattle.windows.specs.Theorems.{cellsAt}
+use Rattle.windows.specs.Theorems.{windowIn}
 use Rattle.windows.proofs.Shared.{is-open, window-layer}
 use Rattle.timed.specs.Timed.{stillOpen, timedWalkOf}
 use Rattle.timed.specs.Theorems.{WholeWeek}
@@ -42,7 +42,7 @@ week-open w e = rw (e, is-open wholeWeek (omega arith))
 module _ (ns : List ℕ) (cells : List ℤ) (hours : List ℕ) (n : ℕ) (has : Has (layersOf ns cells) (spotOf ns n)) where
   -- the windows of the slot at j
   abbrev pub slotWindows : ℕ → ℕ → Window
-  slotWindows j p = cellsAt hours (sum (take (slotLayer (spotOf ns n .layer) j) ns) + p)
+  slotWindows j p = windowIn hours (sum (take (slotLayer (spotOf ns n .layer) j) ns) + p)
 
   layer-there : (j : ℕ) → j < length (guardAt (layersOf ns cells) n (spotOf ns n) .slots) → (t : Bool) → cond t j (suc j) < length ns
   layer-there j h true = omega (arith, slots-others ns cells hours n has)

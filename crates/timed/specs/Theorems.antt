@@ -21,7 +21,7 @@ use Rattle.walk.specs.Passes.{slotLayer}
 use Rattle.walk.specs.Theorems.{noSlot, WalkHolds}
 use Rattle.windows.specs.declared.Window.{Window}
 use Rattle.windows.specs.Windows.{layerHours, windowsAt, hoursOf}
-use Rattle.windows.specs.Theorems.{cellsAt, Share}
+use Rattle.windows.specs.Theorems.{windowIn, Share}
 use Rattle.timed.specs.Timed.{timedGuard, timedWalkOf, timedTableOf}
 
 -- a slot of the old walk and of the timed one, in which v are the minutes that the windows so far share
@@ -36,10 +36,10 @@ pub record SlotNarrowed (old : Slot Rect) (new : Slot (Rect × Window)) (window 
 -- the guard with number n: it starts with its rectangle and its window, and each slot has the windows of its own layer
 pub record GuardNarrowed (ns : List ℕ) (hours : List ℕ) (n : ℕ) (old : Guard Rect) (new : Guard (Rect × Window)) : Type 0 where
   pub number : new .number ≡ old .number
-  pub start : new .start ≡ (old .start, cellsAt hours n)
+  pub start : new .start ≡ (old .start, windowIn hours n)
   pub others : length (new .slots) ≡ length (old .slots)
   pub slots : (j : ℕ) → j < length (old .slots)
-      → SlotNarrowed (getD (old .slots) j noSlot) (getD (new .slots) j noSlot) (λ p. cellsAt hours (sum (take (slotLayer (spotOf ns n .layer) j) ns) + p))
+      → SlotNarrowed (getD (old .slots) j noSlot) (getD (new .slots) j noSlot) (λ p. windowIn hours (sum (take (slotLayer (spotOf ns n .layer) j) ns) + p))
 
 -- "the rows whose windows also share a minute" and none else, each once, in the order of the table
 pub record IsTimedTable (ns : List ℕ) (cells : List ℤ) (hours : List ℕ) (rows : List (List ℕ)) : Type 0 where
@@ -49,7 +49,7 @@ pub record IsTimedTable (ns : List ℕ) (cells : List ℤ) (hours : List ℕ) (r
 
 -- every window is the whole week
 abbrev pub WholeWeek : List ℤ → (hours : List ℕ) → Type 0
-WholeWeek cells hours = (n : ℕ) → n < count cells → cellsAt hours n ≡ record { from = 0; to = 10080 }
+WholeWeek cells hours = (n : ℕ) → n < count cells → windowIn hours n ≡ record { from = 0; to = 10080 }
 
 -- the timed walk w and the timed table of a plan
 pub record TimedHolds (ns : List ℕ) (cells : List ℤ) (hours : List ℕ) (w : List (Probe (Rect × Window))) (table : List (List ℕ)) : Type 0 where

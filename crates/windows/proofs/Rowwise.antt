@@ -10,7 +10,7 @@ use lib.Seq.{drop-cons, drop-drop}
 use Rattle.lists.specs.Lists.{sum}
 use Rattle.lists.proofs.Tests.{clash}
 use Rattle.rows.specs.RowCall.{fits}
-use Rattle.rows.specs.Layers.{Reached}
+use Rattle.rows.specs.inner.Layers.{Reached}
 use Rattle.rows.proofs.RowCall.{fits-long, fits-at}
 use Rattle.rows.proofs.Layers.{sum-next, reached-next}
 use Rattle.windows.specs.declared.Window.{Window}

@@ -28,7 +28,7 @@ use Rattle.rows.proofs.Theorems.{rows}
 use Rattle.windows.specs.declared.Window.{Window}
 use Rattle.windows.specs.Windows.{windowAt, isWindow, allWindows, areHours, both, within, sharedBy, layerHours, windowsAt, hoursOf, sharesMinute}
 use Rattle.windows.specs.HoursCall.{hoursCause, hoursCall, HoursValues, hoursValues}
-use Rattle.windows.specs.Theorems.{Minute, InAll, Share, IsFirst, IsAfter, MinutesHold, RowWindows, Stated, HoursHold, Hours}
+use Rattle.windows.specs.Theorems.{Minute, InAll, Share, IsFirstMinute, IsAfter, MinutesHold, RowWindows, Stated, HoursHold, WindowsHold}
 use Rattle.windows.proofs.Shared.{open-is, is-open, window-layer, hours-long, windows-long, windows-nth}
 
 -- ---- minutes
@@ -62,7 +62,7 @@ some-minutes [] h = absurd (omega arith)
 some-minutes (w ∷ ws) h = minutes-hold w ws
 
 -- where they share a minute, the ends of their shared window are the first of them and the first after them
-ends : (ws : List Window) → MinutesHold ws → Share ws → let s = sharedBy ws in IsFirst ws (s .from) × IsAfter ws (s .to)
+ends : (ws : List Window) → MinutesHold ws → Share ws → let s = sharedBy ws in IsFirstMinute ws (s .from) × IsAfter ws (s .to)
 ends ws k h = (
   (k .minutes (s .from) .0 (le-refl (s .from), some-open), λ m i. k .minutes m .1 i .0),
   (λ m i. k .minutes m .1 i .1, λ n f. omega (arith, some-open, f (s .to - 1) (k .minutes (s .to - 1) .0 (omega (arith, some-open))))),
@@ -156,9 +156,9 @@ module _ (s : Shape) (cells : List ℤ) (hours : List ℕ) (sound : Sound s cell
   hours-hold = record {
     call = λ m h.
         let k = minutes-of m in
-        subst (λ (v : HoursValues). (v .number ≡ 0) × IsFirst own (v .from) × IsAfter own (v .to)) (sym (call-shared (named .1 m) (k .test .1 h))) (refl, ends own k h .0, ends own k h .1);
+        subst (λ (v : HoursValues). (v .number ≡ 0) × IsFirstMinute own (v .from) × IsAfter own (v .to)) (sym (call-shared (named .1 m) (k .test .1 h))) (refl, ends own k h .0, ends own k h .1);
     others = λ f. call-none (never-true _ (λ e. let b = two (isRow (layers s cells) row) (sharesMinute (sizesOf s) hours row) e in let m = named .0 (b .0) in f (m, minutes-of m .test .0 (b .1))));
   }
 
-pub hours : Hours
+pub hours : WindowsHold
 hours = record { minutes = minutes-hold; windows = row-windows; causes = hours-checks; refused = hours-refused; hours = hours-hold }

@@ -19,8 +19,8 @@ use Rattle.windows.specs.Windows.{isOpen, sharedBy, layerHours, windowsA
 use Rattle.windows.specs.HoursCall.{hoursCause, hoursCall, HoursValues, hoursValues}
 
 -- the window of the rectangle with a number, as it lies in the cells: "from and then to, in the order of the plan's cells"
-abbrev pub cellsAt : (hours : List ℕ) → ℕ → Window
-cellsAt hours n = record { from = getD hours (2 * n) 0; to = getD hours (2 * n + 1) 0 }
+abbrev pub windowIn : (hours : List ℕ) → ℕ → Window
+windowIn hours n = record { from = getD hours (2 * n) 0; to = getD hours (2 * n + 1) 0 }
 
 -- ---- minutes
 -- 02: "the from minute included and the to minute not"
@@ -36,8 +36,8 @@ abbrev pub Share : List Window → Type 0
 Share ws = (m : ℕ) × InAll ws m
 
 -- 02: "the first shared minute and the first after them"
-abbrev pub IsFirst : List Window → ℕ → Type 0
-IsFirst ws f = InAll ws f × ((m : ℕ) → InAll ws m → f ≤ m)
+abbrev pub IsFirstMinute : List Window → ℕ → Type 0
+IsFirstMinute ws f = InAll ws f × ((m : ℕ) → InAll ws m → f ≤ m)
 
 abbrev pub IsAfter : List Window → ℕ → Type 0
 IsAfter ws t = ((m : ℕ) → InAll ws m → m < t) × ((n : ℕ) → ((m : ℕ) → InAll ws m → m < n) → t ≤ n)
@@ -53,22 +53,22 @@ pub record MinutesHold (ws : List Window) : Type 0 where
 -- one for each layer, that of the rectangle at the row's place there
 pub record RowWindows (ns hours row : List ℕ) (ws : List Window) : Type 0 where
   pub long : length ws ≡ length ns
-  pub each : (j : ℕ) → j < length ns → (w : Window) → getD ws j w ≡ cellsAt hours (sum (take j ns) + getD row j 0)
+  pub each : (j : ℕ) → j < length ns → (w : Window) → getD ws j w ≡ windowIn hours (sum (take j ns) + getD row j 0)
 
 -- ---- the cause
 -- 02: 2n cells, and each window "from 0 to 10,080 .., from below to"
 abbrev pub Stated : Shape → (hours : List ℕ) → Type 0
 Stated s hours =
-    let n = sum (s .sizes) in (length hours ≡ 2 * n) × ((i : ℕ) → i < n → let w = cellsAt hours i in (w .from < w .to) × (w .to ≤ 10080))
+    let n = sum (s .sizes) in (length hours ≡ 2 * n) × ((i : ℕ) → i < n → let w = windowIn hours i in (w .from < w .to) × (w .to ≤ 10080))
 
 -- ---- the call: what it returns for these cells, whose windows are ws
 pub record HoursHold (table : List (List ℕ)) (row : List ℕ) (ws : List Window) (values : HoursValues) : Type 0 where
   -- "Given such a row, one call returns the first shared minute and the first after them"; the latter is never 0
-  pub call : List·Memᴰ row table → Share ws → (values .number ≡ 0) × IsFirst ws (values .from) × IsAfter ws (values .to)
+  pub call : List·Memᴰ row table → Share ws → (values .number ≡ 0) × IsFirstMinute ws (values .from) × IsAfter ws (values .to)
   -- "for other cells 0 and 0"
   pub others : (List·Memᴰ row table × Share ws → ⊥) → values ≡ record { number = 0; from = 0; to = 0 }
 
-pub record Hours : Type 0 where
+pub record WindowsHold : Type 0 where
   pub minutes : (w : Window) (ws : List Window) → MinutesHold (w ∷ ws)
   pub windows : (ns hours row : List ℕ) → length row ≡ length ns → RowWindows ns hours row (windowsAt (layerHours ns hours) row)
   -- "24, after 4". A refusal returns its number and 0 for all else

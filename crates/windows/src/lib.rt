@@ -1,5 +1,5 @@
 // Windows of the week, in which rectangles are there (02, Q-12). Which windows are taken and which minutes those of a row share is defined in specs/; the code
-// is in the crate `timekeeper`.
+// is in the crate `windows_code`.
 
 // The minutes from `from` on, before `to`.
 pub struct Window {

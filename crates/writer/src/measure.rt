@@ -1,6 +1,6 @@
 // How many bytes a text takes, before it is written.
 use plan::Shape;
-use planner::rect_at;
+use plan_code::rect_at;
 use speller::layer_line_size;
 use speller::plan_line_size;
 use speller::rect_line_size;
@@ -12,7 +12,7 @@ ghost use Rattle.plan.specs.Limits.{mostRects};
 ghost use Rattle.plan.specs.Plan.{Sound};
 ghost use Rattle.text.specs.Spelling.{spell, allShort};
 ghost use Rattle.text.specs.Plans.{rectLines, textOf};
-ghost use Rattle.text.specs.Lengths.{layersLength};
+ghost use Rattle.text.specs.inner.Lengths.{layersLength};
 
 // The length of the RECT lines of n rectangles.
 fn rects_size(cells: &[i32], n: usize) -> usize

@@ -1,7 +1,7 @@
 // The text of a plan, put into a buffer.
 use plan::Shape;
-use planner::layer_cells;
-use planner::rect_at;
+use plan_code::layer_cells;
+use plan_code::rect_at;
 use speller::put_layer_line;
 use speller::put_plan_line;
 use speller::put_rect_line;
@@ -13,7 +13,7 @@ ghost use lib.IntN.{pos};
 ghost use lib.ListN.{length, take};
 ghost use Rattle.lists.specs.Lists.{sum};
 ghost use Rattle.plan.specs.Plan.{Sound};
-ghost use Rattle.lists.specs.Stores.{Put};
+ghost use Rattle.lists.specs.inner.Stores.{Put};
 ghost use Rattle.line.specs.declared.Line.the-variants.{Layer};
 ghost use Rattle.text.specs.Spelling.{spell, allShort};
 ghost use Rattle.text.specs.Plans.{rectLines, layerLines, textOf};

@@ -3,7 +3,7 @@ use borrow.Author.Needs.{needs}
 use mathlib.Core.Path.{ap, _∙_}
 use Rattle.pairs.specs.declared.PairAnswer.{PairAnswer}
 use Rattle.pairs.specs.PairCall.{pairValues}
-use Rattle.cells.specs.Cells.{pairCells}
+use Rattle.c_cells.specs.Cells.{pairCells}
 use Rattle.capi.proofs.overlay_apart_pair.Statement.{statement}
 use Rattle.capi.proofs.overlay_apart_pair.Tie as tie
 

@@ -1,8 +1,8 @@
 -- `capi::overlay_crossing_report`: number, cells and counts are those of the values.
 use mathlib.Core.Path.{ap, _∙_}
-use Rattle.tally.specs.declared.CrossingReport.{CrossingReport}
+use Rattle.crossing_report.specs.declared.CrossingReport.{CrossingReport}
 use Rattle.paging.specs.Calls.{runValues}
-use Rattle.cells.specs.Cells.{runCells}
+use Rattle.c_cells.specs.Cells.{runCells}
 use borrow.Author.Needs.{needs}
 use Rattle.capi.proofs.overlay_crossing_report.Statement.{statement}
 use Rattle.capi.proofs.overlay_crossing_report.Tie as tie

@@ -2,7 +2,7 @@
 use borrow.Author.Needs.{needs}
 use mathlib.Core.Path.{ap, _∙_}
 use Rattle.paging.specs.declared.Fresh.{Fresh}
-use Rattle.cells.specs.Cells.{ticketCells}
+use Rattle.c_cells.specs.Cells.{ticketCells}
 use Rattle.capi.proofs.overlay_fresh_ticket.Statement.{statement}
 use Rattle.capi.proofs.overlay_fresh_ticket.Tie as tie
 

@@ -6,8 +6,8 @@ use Rattle.paging.specs.declared.Ticket.{Ticket}
 use Rattle.rounds.specs.declared.Round.{Round}
 use Rattle.rounds.specs.Rounds.{Request, roundCall, roundCounters, roundTable}
 use Rattle.rounds.proofs.Theorems.{rounds-hold}
-use Rattle.cells.specs.Cells.{shapeOf}
-use Rattle.roundcells.specs.RoundCells.{ticketsIn, roundCells, ticketsAfter}
+use Rattle.c_cells.specs.Cells.{shapeOf}
+use Rattle.c_rounds.specs.RoundCells.{ticketsIn, roundCells, ticketsAfter}
 use Rattle.capi.proofs.overlay_round.Statement.{statement}
 use Rattle.capi.proofs.overlay_round.Tie as tie
 

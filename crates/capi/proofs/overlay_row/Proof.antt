@@ -3,7 +3,7 @@ use borrow.Author.Needs.{needs}
 use mathlib.Core.Path.{ap, _∙_}
 use Rattle.rows.specs.declared.RowAnswer.{RowAnswer}
 use Rattle.rows.specs.RowCall.{rowValues}
-use Rattle.cells.specs.Cells.{rowCells}
+use Rattle.c_cells.specs.Cells.{rowCells}
 use Rattle.capi.proofs.overlay_row.Statement.{statement}
 use Rattle.capi.proofs.overlay_row.Tie as tie
 

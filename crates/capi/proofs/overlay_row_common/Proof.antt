@@ -3,7 +3,7 @@ use borrow.Author.Needs.{needs}
 use mathlib.Core.Path.{ap, _∙_}
 use Rattle.rows.specs.declared.CommonAnswer.{CommonAnswer}
 use Rattle.rows.specs.RowCall.{commonValues}
-use Rattle.cells.specs.Cells.{commonCells}
+use Rattle.c_cells.specs.Cells.{commonCells}
 use Rattle.capi.proofs.overlay_row_common.Statement.{statement}
 use Rattle.capi.proofs.overlay_row_common.Tie as tie
 

@@ -3,7 +3,7 @@ use borrow.Author.Needs.{needs}
 use mathlib.Core.Path.{ap, _∙_}
 use Rattle.windows.specs.declared.HoursAnswer.{HoursAnswer}
 use Rattle.windows.specs.HoursCall.{hoursValues}
-use Rattle.cells.specs.Cells.{hoursCells}
+use Rattle.c_cells.specs.Cells.{hoursCells}
 use Rattle.capi.proofs.overlay_row_hours.Statement.{statement}
 use Rattle.capi.proofs.overlay_row_hours.Tie as tie
 

@@ -3,7 +3,7 @@ use borrow.Author.Needs.{needs}
 use mathlib.Core.Path.{ap, _∙_}
 use Rattle.paging.specs.declared.Run.{Run}
 use Rattle.paging.specs.Calls.{runValues}
-use Rattle.cells.specs.Cells.{runCells}
+use Rattle.c_cells.specs.Cells.{runCells}
 use Rattle.capi.proofs.overlay_run_all.Statement.{statement}
 use Rattle.capi.proofs.overlay_run_all.Tie as tie
 

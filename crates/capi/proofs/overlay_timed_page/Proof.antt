@@ -4,7 +4,7 @@ use mathlib.Core.Path.{ap, _∙_}
 use mathlib.Core.Option.{some}
 use Rattle.paging.specs.declared.Ticket.{Ticket}
 use Rattle.paging.specs.Calls.{pageCause, pageCall, pageTable, pageCounter}
-use Rattle.cells.specs.Cells.{shapeOf, pageCells, ticketAfter}
+use Rattle.c_cells.specs.Cells.{shapeOf, pageCells, ticketAfter}
 use Rattle.capi.proofs.overlay_timed_page.Statement.{statement}
 use Rattle.capi.proofs.overlay_timed_page.Tie as tie
 

@@ -2,7 +2,8 @@
 use borrow.Author.Needs.{needs}
 use mathlib.Core.Path.{sym, _∙_}
 use Rattle.plan.specs.Plan.{Sound}
-use Rattle.plan.proofs.Growing.{drawn-framed, drawn-grown}
+use Rattle.plan.proofs.Growing.{drawn-framed}
+use Rattle.plan_code.proofs.Drawn.{drawn}
 use Rattle.sweep.proofs.Orders.{checked-plan}
 use Rattle.pager.proofs.Calls.{first-refused}
 use Rattle.pager.proofs.first_of.Statement.{statement}
@@ -39,17 +40,26 @@ returns-2 : tie.Need-returns-2
 returns-2 c =
     let s : tie.Start = search needs in
     let e : tie.Else1 = search needs in
-    let d : tie.After-is-drawn = search needs in
     let t : tie.Then2 = search needs in
     let o : tie.After-first-over = search needs in
-    let a = s .args in
-    o .first-over .ensures (a .cells .now) (sound e) (drawn-grown (a .shape) (a .cells .now) (sound e) (sym (d .is-drawn .ensures) ∙ t .if2 .taken))
+    o .first-over .ensures (s .args .cells .now) (sound e) (drawn _ _ _ (sound e) (t .before .is-drawn .ensures) (t .if2 .taken) .is)
 
-first-grown-requires : tie.Need-first-grown-requires
-first-grown-requires c κs = search needs
+slice-aggregate-grown-cells : tie.Need-slice-aggregate-grown-cells
+slice-aggregate-grown-cells c = search needs
+
+grown-cells-requires : tie.Need-grown-cells-requires
+grown-cells-requires c κs = search needs
+
+first-over-requires-2 : tie.Need-first-over-requires-2
+first-over-requires-2 c κs = let g : tie.After-grown-cells = search needs in g .grown-cells .ensures .framed
 
 returns-3 : tie.Need-returns-3
-returns-3 c = search needs
+returns-3 c =
+    let s : tie.Start = search needs in
+    let e : tie.Else1 = search needs in
+    let g : tie.After-grown-cells = search needs in
+    let o : tie.After-first-over2 = search needs in
+    o .first-over2 .ensures (s .args .cells .now) (sound e) (g .grown-cells .ensures .is)
 
 pub first-of-spec : {M : Type 1} → statement M
 first-of-spec =
@@ -61,5 +71,7 @@ first-of-spec =
     is-drawn-requires
     first-over-requires
     returns-2
-    first-grown-requires
+    slice-aggregate-grown-cells
+    grown-cells-requires
+    first-over-requires-2
     returns-3)

@@ -4,7 +4,7 @@ use native.Mathlib.Omega.{arith}
 use lib.ListN.{List·getD-eq-default}
 use denote.Ref.{now}
 use borrow.Author.Needs.{needs}
-use Rattle.decimal.specs.Bytes.{kindOf}
+use Rattle.decimal.specs.inner.Bytes.{kindOf}
 use Rattle.lexer.proofs.numbers.kind_at.Statement.{statement}
 use Rattle.lexer.proofs.numbers.kind_at.Tie as tie
 

@@ -2,7 +2,7 @@
 use mathlib.Core.Path.{sym}
 use mathlib.Core.Logic.{⊎-elim, inl, inr}
 use native.Mathlib.Omega.{arith}
-use Rattle.decimal.specs.Bytes.{kindOf}
+use Rattle.decimal.specs.inner.Bytes.{kindOf}
 use Rattle.decimal.proofs.Bytes.{kind-digit, kind-other}
 use Rattle.lexer.proofs.numbers.kind_of.Statement.{statement}
 use Rattle.lexer.proofs.numbers.kind_of.Tie as tie

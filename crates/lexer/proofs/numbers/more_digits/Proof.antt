@@ -5,7 +5,7 @@ use lib.ListN.{getD}
 use denote.Ref.{now}
 use borrow.Author.Needs.{needs}
 use borrow.Author.Tests.{not-true, not-false}
-use Rattle.decimal.specs.Bytes.{kindOf, isDigit}
+use Rattle.decimal.specs.inner.Bytes.{kindOf, isDigit}
 use Rattle.decimal.proofs.Places.{Next, next-digit, Going, one-more, value-small, ended, all-read}
 use Rattle.lexer.proofs.numbers.more_digits.Statement.{statement}
 use Rattle.lexer.proofs.numbers.more_digits.Tie as tie

@@ -12,8 +12,8 @@ use denote.Ref.{now}
 use borrow.Author.Needs.{needs, sfits-of}
 use Rattle.decimal.specs.declared.Kind.{Kind}
 use Rattle.decimal.specs.declared.Kind.the-variants.{Minus, Zero, Digit, Tab, End, Other}
-use Rattle.decimal.specs.Bytes.{kindOf, isDigit}
-use Rattle.decimal.specs.Places.{isMinus, placed, numberFrom}
+use Rattle.decimal.specs.inner.Bytes.{kindOf, isDigit}
+use Rattle.decimal.specs.inner.Places.{isMinus, placed, numberFrom}
 use Rattle.decimal.proofs.Places.{inside, Next, next-digit, after, Begins, begins, minus-bad, zero-read, digit-read, none-read}
 use Rattle.lexer.proofs.numbers.read_number.Statement.{statement}
 use Rattle.lexer.proofs.numbers.read_number.Tie as tie

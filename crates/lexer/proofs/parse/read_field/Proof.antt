@@ -8,7 +8,7 @@ use mir.Facts.{toZ-ofZ}
 use denote.Ref.{now}
 use borrow.Author.Needs.{needs}
 use Rattle.decimal.specs.declared.Kind.{Kind}
-use Rattle.decimal.specs.Bytes.{kindOf}
+use Rattle.decimal.specs.inner.Bytes.{kindOf}
 use Rattle.decimal.proofs.Signs.{short-fits}
 use Rattle.line.specs.Places.{endOf, endsBy}
 use Rattle.line.proofs.Words.{ends-inside}

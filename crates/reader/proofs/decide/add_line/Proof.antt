@@ -3,7 +3,7 @@ use mathlib.Core.Path.{sym, ap, _∙_}
 use mir.Syntax.{w32}
 use mir.Val.{SFits}
 use mir.Facts.{toZ-ofZ}
-use Rattle.text.specs.Counting.{addLine}
+use Rattle.text.specs.inner.Counting.{addLine}
 use borrow.Author.Needs.{needs}
 use Rattle.reader.proofs.decide.add_line.Statement.{statement}
 use Rattle.reader.proofs.decide.add_line.Tie as tie

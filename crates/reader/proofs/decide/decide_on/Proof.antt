@@ -7,7 +7,7 @@ use mir.Facts.{toZ-ofZ}
 use denote.Ref.{now}
 use borrow.Author.Needs.{needs}
 use Rattle.text.specs.Parsing.{linesOf}
-use Rattle.text.specs.Counting.{tallyCause}
+use Rattle.text.specs.inner.Counting.{tallyCause}
 use Rattle.text.proofs.Filling.{formCause, tally-tells, Accepted, accepted, refused-form, refused-room, taken}
 use Rattle.reader.proofs.decide.decide_on.Statement.{statement}
 use Rattle.reader.proofs.decide.decide_on.Tie as tie

@@ -10,7 +10,7 @@ use lib.Seq.{sets, length-sets}
 use denote.Ref.{now}
 use borrow.Author.Needs.{needs}
 use Rattle.decimal.specs.Numerals.{digits, size, decimal}
-use Rattle.lists.specs.Stores.{Put}
+use Rattle.lists.specs.inner.Stores.{Put}
 use Rattle.decimal.proofs.Powers.{tenfold}
 use Rattle.decimal.proofs.Numerals.{length-decimal}
 use Rattle.lists.proofs.Stores.{set-before}

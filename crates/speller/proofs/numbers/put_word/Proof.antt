@@ -5,7 +5,7 @@ use Prim.Native.Nat.{ℕ, _+_, _-_, _≤_, _<_}
 use native.Mathlib.Omega.{arith}
 use lib.ListN.{length, getD, set, drop, drop-of-length-le}
 use denote.Ref.{now}
-use Rattle.lists.specs.Stores.{Put}
+use Rattle.lists.specs.inner.Stores.{Put}
 use Rattle.lists.proofs.Stores.{Left, left-all, left-byte, left-none}
 use Rattle.decimal.proofs.Places.{at-byte}
 use Rattle.speller.proofs.numbers.put_word.Statement.{statement}

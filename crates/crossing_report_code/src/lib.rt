@@ -1,0 +1,99 @@
+// The crossing report (02: pipes against ducts): a whole run, whose rows are then counted by their class. What it answers is defined in the crate `tally`.
+use crossing_report::CrossingReport;
+use crossings_code::crossing_cause;
+use crossings_code::row_class;
+use paging::Run;
+use plan::MOST_CELLS;
+use plan::Shape;
+use plan_code::grown_cells;
+use rows_code::row_at;
+use runner::run_all;
+ghost use mathlib.Core.Path.{_≡_};
+ghost use Prim.Native.Nat.{_≤_};
+ghost use lib.ListN.{length, take};
+ghost use Rattle.plan.specs.Plan.{layersOf, grown, layers, Sound};
+ghost use Rattle.crossings.specs.ClassCall.{classCounts};
+ghost use Rattle.rows.specs.Tables.{rowsIn};
+ghost use Rattle.rows.specs.inner.TableRows.{TableRows};
+ghost use Rattle.crossing_report.specs.CrossingCall.{crossingRunCause, crossingCall, crossingTable};
+ghost use Rattle.paging.specs.Calls.{runValues, WorkAfter};
+ghost use Rattle.crossing_report_code.specs.Parts.{RanInto, refusedReport, reportOn};
+
+// All rows of a plan's table into a lent table, if they fit, and how many fall in each class.
+pub fn crossing_report(
+    shape: Shape,
+    cells: &[i32],
+    order: &[u32],
+    table: &mut [u32],
+    work: &mut [i32],
+) -> CrossingReport
+    ensures answer { λ r. ⌜ r ≡ crossingCall shape (now (cells .entry)) (now (order .entry)) (now (table .entry)) (length (now (work .entry))) ⌝ }
+    ensures values { λ r. ⌜ runValues (r .run)
+        ≡ runValues (crossingCall shape (now (cells .entry)) (now (order .entry)) (now (table .entry)) (length (now (work .entry))) .run) ⌝ }
+    ensures table { λ _. ⌜ now (table .exit)
+        ≡ crossingTable shape (now (cells .entry)) (now (order .entry)) (now (table .entry)) (length (now (work .entry))) ⌝ }
+    ensures work { λ _. ⌜ WorkAfter (crossingRunCause shape (now (cells .entry)) (now (order .entry)) (now (table .entry)) (length (now (work .entry))))
+        (now (work .entry)) (now (work .exit)) ⌝ }
+{
+    let cause = crossing_cause(shape, cells);
+    if cause != 0 {
+        return refused_report(cause);
+    }
+    let run = run_all(shape, cells, order, table, work);
+    report_on(run, shape, cells, table)
+}
+
+fn refused_report(cause: u32) -> CrossingReport
+    ensures { λ r. ⌜ r ≡ refusedReport cause ⌝ }
+{
+    CrossingReport {
+        run: Run::Refused(cause),
+        counts: [0; 17],
+    }
+}
+
+// The report on what the whole run answered, and the table that it left.
+fn report_on(run: Run, shape: Shape, cells: &[i32], table: &[u32]) -> CrossingReport
+    requires { ⌜ RanInto shape (now cells) run (now table) ⌝ }
+    ensures { λ r. ⌜ r ≡ reportOn shape (now (cells .entry)) run ⌝ }
+{
+    match run {
+        Run::Refused(cause) => refused_report(cause),
+        Run::Done(rows, probes, area, ground) => {
+            let counts = count_grown(shape, cells, table, rows);
+            CrossingReport {
+                run: Run::Done(rows, probes, area, ground),
+                counts,
+            }
+        }
+    }
+}
+
+// How many of the first n rows of a sound plan's table fall in each class.
+fn count_grown(shape: Shape, cells: &[i32], table: &[u32], n: u32) -> [u32; 17]
+    requires { ⌜ Sound shape (now cells) × TableRows (shape .sizes) (shape .k) (grown shape (now cells)) (now table) n ⌝ }
+    requires { ⌜ 3 ≤ shape .k ⌝ }
+    ensures { λ r. ⌜ r ≡ classCounts (layers shape (now (cells .entry))) (rowsIn (shape .k) n (now (table .entry))) ⌝ }
+{
+    let mut run = [0i32; MOST_CELLS];
+    let grown = grown_cells(shape, cells, &mut run);
+    count_classes(&shape.sizes, shape.k as usize, grown, table, n)
+}
+
+// How many of the first n rows of a table fall in each class.
+fn count_classes(sizes: &[u32], k: usize, cells: &[i32], table: &[u32], n: u32) -> [u32; 17]
+    requires { ⌜ TableRows (now sizes) k (now cells) (now table) n ⌝ }
+    requires { ⌜ 3 ≤ k ⌝ }
+    ensures { λ r. ⌜ r ≡ classCounts (layersOf (take k (now (sizes .entry))) (now (cells .entry))) (rowsIn k n (now (table .entry))) ⌝ }
+{
+    let mut counts = [0u32; 17];
+    let mut start: usize = 0;
+    let mut i: u32 = 0;
+    while i < n {
+        let class = row_class(sizes, k, cells, row_at(table, start, k)) as usize;
+        counts[class] += 1;
+        start += k;
+        i += 1;
+    }
+    counts
+}

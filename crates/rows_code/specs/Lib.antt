@@ -1,0 +1,2 @@
+-- What the functions over a row promise one another.
+pub mod Reading
