@@ -368,7 +368,8 @@ static uint32_t (*const overlay_linked_version)(void) = overlay_version_14;
 /* How many rectangles a plan of these sizes has, n: the cells of its order. */
 static inline size_t overlay_count_rects(const uint32_t sizes[6])
 {
-    return (size_t)sizes[0] + sizes[1] + sizes[2] + sizes[3] + sizes[4] + sizes[5];
+    size_t first = sizes[0];
+    return first + sizes[1] + sizes[2] + sizes[3] + sizes[4] + sizes[5];
 }
 
 /* How many cells a plan of these sizes has: four for each rectangle. */

@@ -16,8 +16,8 @@ answer so; this module is its face for Python, and docs/MANUAL.md of the reposit
 A plan is accepted when it is made, so the calls on it are refused only for what is handed to them beside it; `Refused` says why. Wherever numbers are taken,
 they may stand in lists and tuples or in anything with the buffer protocol, such as an array or a numpy array of any shape.
 
-The library is liboverlay.so. It is looked for in the folder that the environment names by OVERLAY_LIB, then in target/staticlib of the repository, then where
-the system looks. A library of another version is refused when the module is imported.
+The library is liboverlay.so. It is looked for in the folder that the environment names by OVERLAY_LIB, else in target/staticlib of the repository or below the
+prefix of an installed module, then where the system looks. A library of another version is refused when the module is imported.
 """
 
 import ctypes
@@ -343,11 +343,12 @@ _CALLS = {
 
 def _library() -> ctypes.CDLL:
     """The library, of this version and with the types of its calls."""
-    built = Path(__file__).resolve().parent.parent / "target" / "staticlib"
-    path = Path(os.environ.get("OVERLAY_LIB", built)) / "liboverlay.so"
-    found = str(path) if path.exists() else ctypes.util.find_library("overlay")
+    here, named = Path(__file__).resolve().parent, os.environ.get("OVERLAY_LIB")
+    usual = [(here / way).resolve() for way in ("../target/staticlib", "../../../lib")]
+    paths = [Path(folder) / "liboverlay.so" for folder in ([named] if named else usual)]
+    found = next((str(path) for path in paths if path.exists()), None) or ctypes.util.find_library("overlay")
     if found is None:
-        raise ImportError(f"no liboverlay.so in {path.parent}, nor where the system looks: OVERLAY_LIB names its folder")
+        raise ImportError(f"no liboverlay.so in {paths[0].parent}, nor where the system looks: OVERLAY_LIB names its folder")
     library = ctypes.CDLL(found)
     if not hasattr(library, f"overlay_version_{VERSION}"):
         raise ImportError(f"{found} has another version than {VERSION}")

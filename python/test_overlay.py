@@ -15,6 +15,11 @@ import geojson
 import overlay
 from overlay import Cause, Common, Layer, Near, Plan, Record, Rect, Refused, Row, Stop, Ticket, Total, Window
 
+try:
+    import numpy
+except ImportError:
+    numpy = None
+
 EXAMPLES = HERE.parent / "examples"
 
 
@@ -85,6 +90,38 @@ class Overlay(unittest.TestCase):
         self.assertEqual(len({Plan([layer, drawn]).text for layer in layers}), 1)
         with self.assertRaises(TypeError):
             Plan.from_text("PLAN\t2\n")
+
+    @unittest.skipIf(numpy is None, "numpy is not installed")
+    def test_numpy(self):
+        drawn, other = [[0, 0, 9, 9], [5, 5, 20, 20]], [[5, 5, 12, 12], [8, 1, 9, 30]]
+        laid = Plan([drawn, other])
+        types = ("int8", "uint8", "int16", "int32", "uint32", "int64", "uint64", ">i4", ">i8", "object")
+        held = [numpy.array(drawn, dtype=each) for each in types]
+        small, wide = held[3], held[5]
+        cut = numpy.array([[77] + four + [77] for four in drawn])[:, 1:5]
+        held += [cut, cut.astype("int32")[:], numpy.asfortranarray(small), small[::-1][::-1], wide.ravel(), wide.reshape(2, 2, 2)]
+        self.assertEqual({Plan([layer, numpy.array(other)]).text for layer in held}, {laid.text})
+        sizes = numpy.array([2, 2, 0, 0, 0, 0])
+        self.assertEqual(Plan.from_cells(numpy.int64(2), sizes, 0 * sizes, numpy.array([drawn, other])).text, laid.text)
+        self.assertEqual(Plan([Layer(wide, numpy.int64(5)), numpy.zeros((0, 4))]).layers[0], Layer(Plan([drawn, []]).layers[0].rects, 5))
+        self.refused(Cause.RECT, Plan, [wide << 40, other])
+        self.refused(Cause.CELLS, Plan, [wide[:, :3], other])
+        with self.assertRaises(TypeError):
+            Plan([wide / 2, other])
+        places = numpy.array([0, 1])
+        for call in (laid.row, laid.common, laid.apart_pair):
+            self.assertEqual(call(places), call((0, 1)))
+        self.assertIsNone(laid.row(-places))
+        self.assertEqual(laid.nearest(wide[0]), laid.nearest(drawn[0]))
+        week = [[0, 10], [5, 20], [0, 10_080], [6, 7]]
+        self.assertEqual(laid.timed(numpy.array(week)).run(numpy.int64(9)), laid.timed(week).run(9))
+        rows = laid.run(9).rows
+        self.assertEqual(numpy.array(rows.cells).reshape(-1, 2).tolist(), [list(row) for row in rows])
+        records = numpy.array([[1000.25, 500.0, 1250.75, 750.5], [-250.5, 10.0, -0.0, 20.0]])
+        covers = overlay.cover_records(records.tolist())
+        for corners in (records, records.astype(">f8"), records.astype("float32"), numpy.asfortranarray(records), records[:, ::-1][:, ::-1]):
+            self.assertEqual(overlay.cover_records(corners), covers)
+        self.assertEqual(overlay.cover_records(records, (None, numpy.float64(0)), (numpy.int64(15), None)), covers[1:])
 
     def test_runs(self):
         forecourt = plan("forecourt")

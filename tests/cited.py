@@ -1,12 +1,12 @@
 """What the pages of the repository cite, held against it (tests/documents): names and files in backticks, the fields of records, the definitions that contracts
-lead to, must-fail edits, and decisions by their numbers."""
+lead to, crates, must-fail edits, and decisions by their numbers."""
 import os
 import re
 from glob import glob
 
 NAME = r"[A-Za-z_][\w'→·-]*"
 # Words in backticks that name nothing of the repository, and names of before that a page tells of.
-FOREIGN = set("M- cargo gcc clang awk numpy python3 rt pkg-config F enum-X RT_JOBS OVERLAY_PAGE_AREA OVERLAY_RUN_GROUND overlay_fresh_cursor".split())
+FOREIGN = set("M- cargo gcc clang awk numpy python3 rt pkg-config F enum-X RT_JOBS PATH OVERLAY_PAGE_AREA OVERLAY_RUN_GROUND overlay_fresh_cursor".split())
 MADE = ("target/", "usr/", "7", "first.c", "first.cpp", "first.py", "src/records.rt", "proofs/Records.antt")
 
 
@@ -115,6 +115,20 @@ def cited(page):
             continue
         found = [fault for span in re.findall(r"`([^`]+)`", line) for fault in wrong(span)]
         yield from (f"{page}:{number}: {fault}" for fault in found + list(wrong_fields(line)))
+
+
+def crates():
+    """README.md names every crate, and in its table of promise and code nothing else; before or behind a definition stands its crate."""
+    text = read("README.md")
+    yield from (f"README.md: no word of the crate {crate}" for crate in sorted(CRATES) if not re.search(rf"\b{crate}\b", text))
+    table = re.search(r"^\| promise \| code \|\n(.*?)^$", text, re.S | re.M)[1]
+    for name in re.findall(r"`(\w+)`", re.sub(r"\([^()]*\)", "", table)):
+        if name not in CRATES:
+            yield f"README.md: `{name}` is no crate"
+    for page in ("docs/PROMISES.md", "docs/DECISIONS.md"):
+        for first, second in re.findall(r"(?:\| |; |— )([a-z_]+), (?=`)|`[\w.]+` \(([a-z_]+)[,)]", read(page)):
+            if (first or second) not in CRATES:
+                yield f"{page}: {first or second} is no crate"
 
 
 def edits():

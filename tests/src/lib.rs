@@ -3,12 +3,11 @@
 //! Each call has a folder: what 01 and 02 say of it, written in the most direct way (`mod.rs`), its wrong versions, a table of functions with what is wrong of
 //! each (`slips.rs`), and its comparison (`compare.rs`). Calls of one plan are compared together: an overlay under test implements `overlay::Overlay` and is
 //! handed to `compare::compare` beside `reference::REFERENCE`. The others are handed to a comparison of their own: reports, nearest, surveys, crossings, rounds,
-//! hours, and what the program says (`program`, beside `commands`; `check` beside `checks`). All give their counts, or the first difference with the whole
+//! hours, and what the program says (`program`, and of its commands `check` and `picture` apart). All give their counts, or the first difference with the whole
 //! case. `laws::try_laws` takes the overlay under test alone.
 
 pub mod call;
-pub mod checks;
-pub mod commands;
+pub mod check;
 pub mod compare;
 pub mod crossings;
 pub mod hours;
@@ -19,6 +18,7 @@ pub mod order;
 pub mod overlay;
 pub mod page;
 pub mod pair;
+pub mod picture;
 pub mod plan;
 pub mod program;
 pub mod reference;

@@ -1,13 +1,13 @@
 //! Compares the reference with wrong overlays, each of which must be caught, and with itself.
 
-use overlay_tests::checks::{check, compare_checks, ByWords as CheckByWords, SLIPS as CHECK_SLIPS};
-use overlay_tests::commands::{answer, ByWords as CommandsByWords, SLIPS as COMMAND_SLIPS};
+use overlay_tests::check::{check, compare_checks, ByWords as CheckByWords, SLIPS as CHECK_SLIPS};
 use overlay_tests::compare::{compare, Tally};
 use overlay_tests::crossings::{compare_crossings, ByWords, SLIPS as CROSSING_SLIPS};
 use overlay_tests::hours::{compare_hours, ByWords as HoursByWords, SLIPS as HOURS_SLIPS};
 use overlay_tests::laws::{try_laws, LAWLESS, LAWS, WRONG_LAWS};
 use overlay_tests::nearest::{compare_nearest, nearest, WRONG_NEAREST};
-use overlay_tests::program::compare_programs;
+use overlay_tests::picture::{compare_pictures, picture, SLIPS as PICTURE_SLIPS};
+use overlay_tests::program::{answer, compare_programs, ByWords as ProgramByWords, SLIPS as PROGRAM_SLIPS};
 use overlay_tests::reference::{report, REFERENCE};
 use overlay_tests::report::slips::SLIPS as REPORT_SLIPS;
 use overlay_tests::reports::compare_reports;
@@ -99,7 +99,7 @@ fn catch_wrong_hours() {
 /// Every wrong check must differ from the right one somewhere.
 fn catch_wrong_checks() {
     for (slip, name) in CHECK_SLIPS {
-        match compare_checks(&|text| CheckByWords(Some(slip)).check(text), &check) {
+        match compare_checks(&|text| CheckByWords(slip).check(text), &check) {
             Err(found) => println!("wrong check caught after {} cases: {name}", found.cases),
             Ok(_) => stop(&format!("wrong check not caught: {name}")),
         }
@@ -108,10 +108,20 @@ fn catch_wrong_checks() {
 
 /// Every wrong program must differ from the right one somewhere.
 fn catch_wrong_programs() {
-    for (slip, name) in COMMAND_SLIPS {
-        match compare_programs(&|asked| CommandsByWords(Some(slip)).answer(asked), &answer) {
+    for (slip, name) in PROGRAM_SLIPS {
+        match compare_programs(&|asked| ProgramByWords(slip).answer(asked), &answer) {
             Err(found) => println!("wrong program caught after {} cases: {name}", found.cases),
             Ok(_) => stop(&format!("wrong program not caught: {name}")),
+        }
+    }
+}
+
+/// Every wrong picture must differ from the right one somewhere.
+fn catch_wrong_pictures() {
+    for (wrong, name) in PICTURE_SLIPS {
+        match compare_pictures(&|plan| wrong.picture(plan), &picture) {
+            Err(found) => println!("wrong picture caught after {} cases: {name}", found.cases),
+            Ok(_) => stop(&format!("wrong picture not caught: {name}")),
         }
     }
 }
@@ -146,6 +156,8 @@ fn compare_with_itself() -> Tally {
     tally.add("hours", hours.unwrap_or_else(|found| stop(&found.text)));
     tally.add("checks", compare_checks(&check, &check).unwrap_or_else(|found| stop(&found.text)));
     tally.add("program", compare_programs(&answer, &answer).unwrap_or_else(|found| stop(&found.text)));
+    let pictures = compare_pictures(&picture, &picture);
+    tally.add("pictures", pictures.unwrap_or_else(|found| stop(&found.text)));
     tally.add("laws", try_laws(&REFERENCE, &LAWS).unwrap_or_else(|found| stop(&found.text)));
     tally
 }
@@ -161,6 +173,7 @@ fn main() {
     catch_wrong_hours();
     catch_wrong_checks();
     catch_wrong_programs();
+    catch_wrong_pictures();
     catch_wrong_laws();
     print!("{}", compare_with_itself());
 }

@@ -1,7 +1,7 @@
 //! The declarations of the C interface say the same: the header, of which the Rust crate makes its own, the library's exported functions, and the Python
 //! module's table of calls. Header, manuals, Rust crate and Python module tell the causes in the same words, and have the same version and limits.
 
-use overlay_tests::commands::{cause_words, version, OWN_WORDS};
+use overlay_tests::program::{cause_words, version, OWN_WORDS};
 
 const HEADER: &str = include_str!("../../include/overlay.h");
 const LIBRARY: &str = include_str!("../../crates/capi/src/lib.rt");

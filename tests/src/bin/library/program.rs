@@ -1,9 +1,11 @@
 //! The program `overlay` under test, by the functions that `programs/overlay.c` calls (include/overlay.h), with one set of buffers for all calls.
 
-use overlay_tests::checks::{check, compare_checks, Said};
-use overlay_tests::commands::{answer, Answer, Asked};
+use overlay_tests::call::Plan;
+use overlay_tests::check::{check, compare_checks, Said};
 use overlay_tests::compare::Difference;
-use overlay_tests::program::compare_programs;
+use overlay_tests::picture::{compare_pictures, picture};
+use overlay_tests::program::{answer, compare_programs, Answer, Asked};
+use overlay_tests::seeds::text;
 use std::cell::RefCell;
 
 extern "C" {
@@ -60,18 +62,14 @@ impl Buffers {
                 &mut out_size,
                 &mut err_size,
             );
-            let (mut out, err) = (self.out[..out_size].to_vec(), self.err[..err_size].to_vec());
-            // A picture is none of the reference's: it has tests of its own.
-            if out.starts_with(b"<svg") && out.ends_with(b"</svg>\n") && asked.words[0] == b"picture" {
-                out.clear();
-            }
+            let (out, err) = (self.out[..out_size].to_vec(), self.err[..err_size].to_vec());
             let text = overlay_text_source(given.as_ptr(), given.len());
             (Said { status, out, err }, text, overlay_second_source(given.as_ptr(), given.len()))
         }
     }
 }
 
-/// The program beside the rules, and its command `check` on texts of its own.
+/// The program beside the rules, and its commands `check` and `picture` on texts of their own.
 pub fn compare_commands() -> Result<u64, Difference> {
     let buffers = RefCell::new(Buffers {
         table: vec![7; CELLS],
@@ -83,5 +81,9 @@ pub fn compare_commands() -> Result<u64, Difference> {
     let checked = |text: &[u8]| {
         program(&Asked { words: vec![b"check".to_vec()], text: text.to_vec(), second: Vec::new() }).0
     };
-    Ok(compare_programs(&program, &answer)? + compare_checks(&checked, &check)?)
+    let drawn = |plan: &Plan| {
+        program(&Asked { words: vec![b"picture".to_vec()], text: text(plan), second: Vec::new() }).0.out
+    };
+    let pictures = compare_pictures(&drawn, &picture)?;
+    Ok(compare_programs(&program, &answer)? + compare_checks(&checked, &check)? + pictures)
 }

@@ -1,7 +1,7 @@
 //! Compares two programs `overlay` over many arguments and texts.
 
+use super::{Answer, Asked, Program};
 use crate::call::Plan;
-use crate::commands::{Asked, Program};
 use crate::compare::Difference;
 use crate::crossings;
 use crate::hours::{windows_for, WINDOW_STYLES};
@@ -191,6 +191,7 @@ fn all_asked() -> Vec<Asked> {
             "classes",
             "hours w",
             "cover - - - -",
+            "picture",
         ] {
             all.push(asked(line, input, &windows));
         }
@@ -214,7 +215,7 @@ pub fn compare_programs(left: Program, right: Program) -> Result<u64, Difference
         let (ours, theirs) = (left(&asked), right(&asked));
         if ours != theirs {
             let words: Vec<String> = asked.words.iter().map(|word| word.escape_ascii().to_string()).collect();
-            let show = |answer: &crate::commands::Answer| {
+            let show = |answer: &Answer| {
                 let (said, text, second) = answer;
                 format!(
                     "{} {text} {second} \"{}\" \"{}\"",

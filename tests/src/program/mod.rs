@@ -1,11 +1,15 @@
-//! What the program `overlay` says: the rule of each command written a second time, and wrong versions of it. `check` is in `checks`.
+//! What the program `overlay` says: the rule of each command. `check` and `picture` have folders of their own.
+
+pub mod compare;
+pub mod slips;
 
 use crate::call::Plan;
-use crate::checks::{check, Said};
+use crate::check::{check, Said};
 use crate::crossings::{ByWords as CrossingsByWords, Crossings};
 use crate::hours::{shared_minutes, timed, Window, WEEK};
 use crate::nearest::nearest;
 use crate::overlay::{Overlay, Shape, Total};
+use crate::picture::picture;
 use crate::reference::{
     count_rows, join, layers_of, pairs, rects_at, report, row_of, square_metres, sweep_order, text_of,
     union_of, Rect, Row, REFERENCE,
@@ -14,7 +18,10 @@ use crate::report::row_line;
 use crate::surveys::{cover_records, Survey};
 use crate::text::number_of;
 
-const HEADER: &str = include_str!("../../include/overlay.h");
+pub use compare::compare_programs;
+pub use slips::SLIPS;
+
+const HEADER: &str = include_str!("../../../include/overlay.h");
 
 /// A table and a work buffer of the report have so many cells; no text is longer than so many bytes.
 const REPORT_CELLS: usize = 12_288;
@@ -34,58 +41,75 @@ pub type Answer = (Said, usize, usize);
 /// The program as a function.
 pub type Program<'a> = &'a dyn Fn(&Asked) -> Answer;
 
-/// What may be wrong with the rules.
-#[derive(Clone, Copy, PartialEq)]
-pub enum Slip {
-    DashAnywhere,
-    DashIsZero,
-    StopsByAxis,
-    RestIgnored,
-    BigEndFirst,
-    LayerZeroIsAll,
-    LayersFromZero,
-    LowerLayerOnly,
-    GapToNearest,
-    NoneUntold,
-    EmptyClasses,
-    ClassBeforeKind,
-    LastMinute,
-    WindowsBeforePlan,
-    WindowsTooMany,
-    ReturnPassed,
-    NoEndPassed,
-    NumbersNoNames,
-    FirstNameRead,
-    MisuseRefused,
-    HelpForAnything,
-    SevenPlaces,
+/// What may slip. Arguments: whether `-` may stand for a number, by whether the command takes it; the most numbers that a command takes, and how many arguments
+/// are looked at for numbers; which argument is the text's, by the numbers and all words; the status of wrong arguments; the command that help is asked of.
+/// `pairs`: the layer that is asked for; whether a pair is told, by whether the lower and the higher layer is that one; how a layer is numbered. `nearest`: the
+/// root of a square; the line of an empty layer. `classes` and `hours`: whether a class of so many rows is told; a row's line with more behind it; the first
+/// minute behind the last shared one; what is said of both texts; what is looked at behind the last window; whether a line has a return, or no end. `cover`:
+/// a stop; the stops of both axes; the corners of bytes.
+#[derive(Clone, Copy)]
+pub struct Slip {
+    pub dash: fn(bool) -> bool,
+    pub most: fn(usize) -> usize,
+    pub looked_at: fn(usize) -> usize,
+    pub named: fn(usize, usize) -> usize,
+    pub misused: u32,
+    pub helped: fn(Option<usize>) -> Option<usize>,
+    pub layer: fn(Option<i64>) -> Option<i64>,
+    pub paired: fn(bool, bool) -> bool,
+    pub numbered: fn(usize) -> usize,
+    pub root: fn(u128) -> u128,
+    pub none: fn(u32) -> String,
+    pub counted: fn(u32) -> bool,
+    pub row_with: fn(&str, &str) -> String,
+    pub behind: fn(u32) -> u32,
+    pub hours: fn(&ByWords, &Asked) -> Said,
+    pub beyond: fn(Option<&[u8]>) -> Option<&[u8]>,
+    pub returned: fn(&[u8]) -> bool,
+    pub open: fn(&[u8]) -> bool,
+    pub stop: fn(Option<i64>) -> Option<i64>,
+    pub axes: fn([Option<i64>; 4]) -> [Option<i64>; 4],
+    pub corners: fn(&[u8]) -> Vec<f64>,
 }
 
-/// Each slip by name.
-pub const SLIPS: [(Slip, &str); 22] = [
-    (Slip::DashAnywhere, "- taken for any number"),
-    (Slip::DashIsZero, "a stop that is not given taken for 0"),
-    (Slip::StopsByAxis, "stops in the order left, right, bottom, top"),
-    (Slip::RestIgnored, "bytes behind the last float ignored"),
-    (Slip::BigEndFirst, "floats with the big end first"),
-    (Slip::LayerZeroIsAll, "pairs 0 tells all pairs"),
-    (Slip::LayersFromZero, "pairs counts layers from 0"),
-    (Slip::LowerLayerOnly, "pairs LAYER tells the pairs in which it is the lower alone"),
-    (Slip::GapToNearest, "a gap rounded to the nearest hundredth"),
-    (Slip::NoneUntold, "an empty layer not told"),
-    (Slip::EmptyClasses, "classes without rows told"),
-    (Slip::ClassBeforeKind, "the class before the kind"),
-    (Slip::LastMinute, "the last shared minute in place of the first after them"),
-    (Slip::WindowsBeforePlan, "the windows text judged before the plan text"),
-    (Slip::WindowsTooMany, "windows too many passed"),
-    (Slip::ReturnPassed, "a carriage return of a windows text not told"),
-    (Slip::NoEndPassed, "a missing line end of a windows text not told"),
-    (Slip::NumbersNoNames, "a name that is a number not taken"),
-    (Slip::FirstNameRead, "the text read from the first name"),
-    (Slip::MisuseRefused, "status 1 for wrong arguments"),
-    (Slip::HelpForAnything, "help of a word that is no command's"),
-    (Slip::SevenPlaces, "seven places taken"),
-];
+/// No slip.
+pub const RIGHT: Slip = Slip {
+    dash: |taken| taken,
+    most: |most| most,
+    looked_at: |most| most,
+    named: |_, words| words,
+    misused: 2,
+    helped: |command| command,
+    layer: |layer| layer,
+    paired: |lower, higher| lower || higher,
+    numbered: |at| at + 1,
+    root: whole_root,
+    none: |layer| format!("NONE\t{layer}\n"),
+    counted: |count| count > 0,
+    row_with: |line, more| format!("{line}\t{more}\n"),
+    behind: |last| last + 1,
+    hours: |words, asked| words.planned(asked, &|plan| words.hours(plan, &asked.second)),
+    beyond: |line| line,
+    returned: |line| line.contains(&b'\r'),
+    open: |line| !line.ends_with(b"\n"),
+    stop: |stop| stop,
+    axes: |[left, bottom, right, top]| [left, right, bottom, top],
+    corners: |bytes| bytes.chunks(8).map(|float| float_of(float, f64::from_le_bytes)).collect(),
+};
+
+/// The greatest whole number whose square is at most this one.
+pub fn whole_root(square: u128) -> u128 {
+    let mut root = (square as f64).sqrt() as u128 + 2;
+    while root * root > square {
+        root -= 1;
+    }
+    root
+}
+
+/// A float of its bytes; not finite where they are not eight.
+pub fn float_of(bytes: &[u8], read: fn([u8; 8]) -> f64) -> f64 {
+    <[u8; 8]>::try_from(bytes).map_or(f64::NAN, read)
+}
 
 /// The fewest and the most of something.
 type Span = (usize, usize);
@@ -208,7 +232,7 @@ fn total(rows: &[Row], trials: usize) -> String {
 }
 
 /// The plan of a text, or why there is none.
-fn plan_in(text: &[u8]) -> Result<Plan, Said> {
+pub fn plan_in(text: &[u8]) -> Result<Plan, Said> {
     if text.len() > LONGEST {
         return Err(refused(13));
     }
@@ -222,24 +246,23 @@ fn plan_in(text: &[u8]) -> Result<Plan, Said> {
 }
 
 /// The rules, with a slip or without.
-pub struct ByWords(pub Option<Slip>);
+pub struct ByWords(pub Slip);
 
 impl ByWords {
-    /// The slip is this one.
-    fn slips(&self, slip: Slip) -> bool {
-        self.0 == Some(slip)
+    /// What is said of a plan's text, by its plan.
+    pub fn planned(&self, asked: &Asked, say: &dyn Fn(&Plan) -> Said) -> Said {
+        plan_in(&asked.text).map_or_else(|why| why, |plan| say(&plan))
     }
 
     /// Wrong arguments.
     fn misused(&self, words: &str) -> Said {
-        let status = if self.slips(Slip::MisuseRefused) { 1 } else { 2 };
-        Said { status, out: Vec::new(), err: format!("overlay: {words}\n").into_bytes() }
+        Said { status: self.0.misused, out: Vec::new(), err: format!("overlay: {words}\n").into_bytes() }
     }
 
     /// `pairs`: the rows of each plan of two layers, of the report's form.
     fn pairs(&self, plan: &Plan, layer: Option<i64>) -> Said {
         let k = plan.shape.k as usize;
-        let layer = if self.slips(Slip::LayerZeroIsAll) { layer.filter(|&n| n != 0) } else { layer };
+        let layer = (self.0.layer)(layer);
         if layer.is_some_and(|n| n < 1 || n > k as i64) {
             return self.misused("the plan has no layer of this number");
         }
@@ -252,10 +275,9 @@ impl ByWords {
             })
             .collect();
         let (mut out, mut count) = (String::new(), 0);
-        let from = if self.slips(Slip::LayersFromZero) { 0 } else { 1 };
         for (i, j) in pairs(k) {
             let is = |at: usize| layer == Some(at as i64 + 1);
-            if layer.is_some() && !is(i) && !(is(j) && !self.slips(Slip::LowerLayerOnly)) {
+            if layer.is_some() && !(self.0.paired)(is(i), is(j)) {
                 continue;
             }
             let of = |all: &[u32; 6]| [all[i], all[j], 0, 0, 0, 0];
@@ -266,8 +288,8 @@ impl ByWords {
                 let (p, q) = (row.places[0], row.places[1]);
                 out += &format!(
                     "PAIR\t{}\t{}\t{p}\t{q}\t{}\t{}\n",
-                    i + from,
-                    j + from,
+                    (self.0.numbered)(i),
+                    (self.0.numbered)(j),
                     row.area,
                     char::from(kind)
                 );
@@ -285,19 +307,12 @@ impl ByWords {
         }
         let mut out = String::new();
         for (layer, near) in (1..=plan.shape.k).zip(told.layers) {
-            let square = 10_000 * u128::from(near.gap);
-            let mut hundredths = (square as f64).sqrt() as u128 + 2;
-            while hundredths * hundredths > square {
-                hundredths -= 1;
-            }
-            if self.slips(Slip::GapToNearest) && square > hundredths * hundredths + hundredths {
-                hundredths += 1;
-            }
+            let hundredths = (self.0.root)(10_000 * u128::from(near.gap));
             let gap = format!("{}.{:02}", hundredths / 100, hundredths % 100);
             if near.found {
                 out += &format!("NEAR\t{layer}\t{}\t{}\t{gap}\n", near.place, near.gap);
-            } else if !self.slips(Slip::NoneUntold) {
-                out += &format!("NONE\t{layer}\n");
+            } else {
+                out += &(self.0.none)(layer);
             }
         }
         done(out)
@@ -318,11 +333,7 @@ impl ByWords {
         let layers = layers_of(&plan.shape, &plan.cells);
         let kind = (REFERENCE.kind)(&rects_at(&layers, &row.places[..layers.len()]));
         let line = row_line(row, layers.len(), kind);
-        let line = line.trim_end();
-        match line.rsplit_once('\t') {
-            Some((front, last)) if self.slips(Slip::ClassBeforeKind) => format!("{front}\t{more}\t{last}\n"),
-            _ => format!("{line}\t{more}\n"),
-        }
+        (self.0.row_with)(line.trim_end(), more)
     }
 
     /// `classes`: the crossing report into the report's cells.
@@ -341,7 +352,7 @@ impl ByWords {
             out += &self.row_with(plan, &row, &class.to_string());
         }
         for (class, count) in told.counts.iter().enumerate() {
-            if *count > 0 || self.slips(Slip::EmptyClasses) {
+            if (self.0.counted)(*count) {
                 out += &format!("CLASS\t{class}\t{count}\n");
             }
         }
@@ -363,7 +374,7 @@ impl ByWords {
         let zero = line.windows(3).any(|w| w[0] == 9 && w[1] == b'0' && w[2].is_ascii_digit());
         let tests = [
             (line.starts_with(b"\xef\xbb\xbf"), "a byte order mark"),
-            (has(b'\r') && !self.slips(Slip::ReturnPassed), "a carriage return"),
+            ((self.0.returned)(line), "a carriage return"),
             (line == b"\n", "a blank line"),
             (spaced || word && has(b' '), "a space: fields are parted by one tab and nothing else"),
             (!word, "a word that is not WINDOW, or no tab behind it"),
@@ -374,14 +385,14 @@ impl ByWords {
                 line.split(|byte| !byte.is_ascii_digit()).any(|run| run.len() >= 9),
                 "a number of nine digits or more",
             ),
-            (!line.ends_with(b"\n") && !self.slips(Slip::NoEndPassed), "no line end at the end of the text"),
+            ((self.0.open)(line), "no line end at the end of the text"),
         ];
         let told = tests.iter().find(|(holds, _)| *holds);
         told.map_or("not the two numbers that WINDOW takes, each behind one tab", |(_, words)| words)
     }
 
     /// The windows of so many rectangles, or the first line that is wrong and why.
-    fn windows(&self, n: usize, text: &[u8]) -> Result<Vec<u32>, Said> {
+    pub fn windows(&self, n: usize, text: &[u8]) -> Result<Vec<u32>, Said> {
         let mut lines = text.split_inclusive(|&byte| byte == 10);
         let wrong =
             |line: usize, words: &str| Err(refused_for(24, &format!("windows, line {line}: {words}")));
@@ -403,7 +414,7 @@ impl ByWords {
             }
             cells.extend([from as u32, to as u32]);
         }
-        if let Some(line) = lines.next().filter(|_| !self.slips(Slip::WindowsTooMany)) {
+        if let Some(line) = (self.0.beyond)(lines.next()) {
             let told =
                 if fields(line).is_some() { "more windows than rectangles" } else { self.reason(line) };
             return wrong(n + 1, told);
@@ -412,7 +423,7 @@ impl ByWords {
     }
 
     /// `hours`: the timed run into the report's cells.
-    fn hours(&self, plan: &Plan, windows: &[u8]) -> Said {
+    pub fn hours(&self, plan: &Plan, windows: &[u8]) -> Said {
         let (n, k) = (plan.cells.len() / 4, plan.shape.k as usize);
         let hours = match self.windows(n, windows) {
             Err(wrong) => return wrong,
@@ -431,8 +442,8 @@ impl ByWords {
             let places = starts.zip(&row.places[..k]).map(|(start, place)| 2 * (start + place) as usize);
             let own: Vec<Window> = places.map(|at| (hours[at], hours[at + 1])).collect();
             let minutes = shared_minutes(&own);
-            let last = minutes[minutes.len() - 1] + u32::from(!self.slips(Slip::LastMinute));
-            out += &self.row_with(plan, row, &format!("{}\t{last}", minutes[0]));
+            let behind = (self.0.behind)(minutes[minutes.len() - 1]);
+            out += &self.row_with(plan, row, &format!("{}\t{behind}", minutes[0]));
         }
         done(out + &total(&rows, trials.len()))
     }
@@ -442,26 +453,14 @@ impl ByWords {
         if records.len() > LONGEST {
             return refused(13);
         }
-        let [left, bottom, right, top] =
-            stops.map(|stop| if self.slips(Slip::DashIsZero) { stop.or(Some(0)) } else { stop });
-        let axes = if self.slips(Slip::StopsByAxis) {
-            [left, bottom, right, top]
-        } else {
-            [left, right, bottom, top]
-        };
+        let axes = (self.0.axes)(stops.map(self.0.stop));
         let kind = |lower: Option<i64>, upper: Option<i64>| {
             u32::from(lower.is_some()) + 2 * u32::from(upper.is_some())
         };
-        let corners = records.chunks(8).filter(|bytes| bytes.len() == 8 || !self.slips(Slip::RestIgnored));
-        let corners = corners.map(|bytes| match <[u8; 8]>::try_from(bytes) {
-            Ok(bytes) if self.slips(Slip::BigEndFirst) => f64::from_be_bytes(bytes),
-            Ok(bytes) => f64::from_le_bytes(bytes),
-            Err(_) => f64::NAN,
-        });
         let survey = Survey {
             kinds: [kind(axes[0], axes[1]), kind(axes[2], axes[3])],
             stops: axes.map(|stop| stop.unwrap_or(0) as f64),
-            corners: corners.collect(),
+            corners: (self.0.corners)(records),
             room: 2_048,
         };
         let mut cells = vec![0; 2_048];
@@ -479,8 +478,7 @@ impl ByWords {
     fn said(&self, command: usize, numbers: &[Option<i64>], names: &[Vec<u8>], asked: &Asked) -> Said {
         let natural = |number: &Option<i64>| u32::try_from(number.unwrap_or(0)).unwrap_or(u32::MAX);
         let side = |at: usize| numbers[at].unwrap_or(0) as i32;
-        let planned =
-            |say: &dyn Fn(&Plan) -> Said| plan_in(&asked.text).map_or_else(|why| why, |plan| say(&plan));
+        let planned = |say: &dyn Fn(&Plan) -> Said| self.planned(asked, say);
         match COMMANDS[command].0 {
             "report" => {
                 let out = report(&asked.text);
@@ -496,29 +494,22 @@ impl ByWords {
             "nearest" => planned(&|plan| self.nearest(plan, [side(0), side(1), side(2), side(3)])),
             "apart" => planned(&|plan| self.apart(plan, &numbers.iter().map(natural).collect::<Vec<u32>>())),
             "classes" => planned(&|plan| self.classes(plan)),
-            "hours" => match self
-                .windows(plan_in(&asked.text).map_or(0, |plan| plan.cells.len() / 4), &asked.second)
-            {
-                Err(wrong) if self.slips(Slip::WindowsBeforePlan) => wrong,
-                _ => planned(&|plan| self.hours(plan, &asked.second)),
-            },
+            "hours" => (self.0.hours)(self, asked),
             "cover" => self.cover(&asked.text, [numbers[0], numbers[1], numbers[2], numbers[3]]),
-            // Of a picture only the refusals are compared: the report's.
             "picture" => planned(&|plan| {
                 let layers = layers_of(&plan.shape, &plan.cells);
                 if count_rows(&layers) > (REPORT_CELLS / layers.len()) as u64 {
-                    refused(7)
-                } else {
-                    done(String::new())
+                    return refused(7);
                 }
+                Said { status: 0, out: picture(plan), err: Vec::new() }
             }),
             "version" => done(format!("overlay {}\n", version())),
             _ => match names.first().map(|name| COMMANDS.iter().position(|row| row.0.as_bytes() == name)) {
                 None => done(help(COMMANDS.len())),
-                Some(None) if !self.slips(Slip::HelpForAnything) => {
-                    self.misused(&format!("wanted: overlay {}", usage(COMMANDS.len())))
-                }
-                Some(at) => done(help(at.unwrap_or(COMMANDS.len()))),
+                Some(at) => match (self.0.helped)(at) {
+                    None => self.misused(&format!("wanted: overlay {}", usage(COMMANDS.len()))),
+                    Some(at) => done(help(at)),
+                },
             },
         }
     }
@@ -529,20 +520,18 @@ impl ByWords {
         let Some(command) = COMMANDS.iter().position(|row| row.0.as_bytes() == word) else {
             return (self.misused(&format!("wanted: overlay {}", usage(COMMANDS.len()))), 0, 0);
         };
-        let (_, _, _, (fewest, mut most), (least, highest), reads, dash, ..) = COMMANDS[command];
-        most += usize::from(self.slips(Slip::SevenPlaces) && most == 6);
-        let dash = dash || self.slips(Slip::DashAnywhere);
-        let all = if self.slips(Slip::NumbersNoNames) { 7 } else { most };
+        let (_, _, _, (fewest, most), (least, highest), reads, dash, ..) = COMMANDS[command];
+        let (most, dash) = ((self.0.most)(most), (self.0.dash)(dash));
         let numbers: Vec<Option<i64>> = asked.words[1..]
             .iter()
-            .take(all)
+            .take((self.0.looked_at)(most))
             .map_while(|word| if dash && word == b"-" { Some(None) } else { number_of(word).map(Some) })
             .collect();
         let names = &asked.words[1 + numbers.len()..];
         if !(fewest..=most).contains(&numbers.len()) || !(least..=highest).contains(&names.len()) {
             return (self.misused(&format!("wanted: overlay {}", usage(command))), 0, 0);
         }
-        let named = if self.slips(Slip::FirstNameRead) { 2 + numbers.len() } else { asked.words.len() };
+        let named = (self.0.named)(numbers.len(), asked.words.len());
         let text = if names.len() > least { named } else { 1 };
         let second = if least > 0 { 2 + numbers.len() } else { 0 };
         (self.said(command, &numbers, names, asked), if reads { text } else { 0 }, second)
@@ -551,5 +540,5 @@ impl ByWords {
 
 /// The rules.
 pub fn answer(asked: &Asked) -> Answer {
-    ByWords(None).answer(asked)
+    ByWords(RIGHT).answer(asked)
 }
