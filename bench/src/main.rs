@@ -9,6 +9,7 @@ mod plans;
 use ffi::Library;
 use hand::{Count, Scan};
 use overlay_tests::call::Plan;
+use overlay_tests::hours::{self, Lent};
 use overlay_tests::overlay::{Overlay, Run, Stop, Ticket};
 use overlay_tests::seeds::{grown_by, towers, Seeds};
 use std::hint::black_box;
@@ -249,6 +250,27 @@ fn bench_hostile(name: &str, plan: &Plan) {
     println!("{:<36} {trials:>18} {ours:>10.0} {other:>10.0} {:>7.1}", format!("{name}, {rows} rows"), ours / other);
 }
 
+/// Times the whole timed run of a plan that would stall a walk, once, beside that of a plan of the same size and windows that would not.
+fn bench_timed(name: &str, plan: &Plan, windows: &[u32]) {
+    let plain = Seeds(7).sparse(&plan.shape.sizes[..plan.shape.k as usize], 60_000);
+    let run = |plan: &Plan| {
+        let (shape, cells) = (&plan.shape, &plan.cells[..]);
+        let mut order = vec![0; cells.len() / 4];
+        assert_eq!(Library.make_order(shape, cells, &mut order), 0);
+        let ticket = Library.fresh(shape, cells, &order, &mut [0]).1;
+        let (table, work) = (vec![0; 6_000_000], vec![0; 2_000_000]);
+        let hours = windows.to_vec();
+        let mut lent = Lent { plan: plan.clone(), hours, order, ticket, record: vec![0], budget: 0, table, work, places: Vec::new() };
+        let start = Instant::now();
+        let run = hours::Timed::run(&Library, black_box(&mut lent));
+        assert_eq!(run.number, 0);
+        (start.elapsed().as_secs_f64() * 1e6, run.rows, run.trials)
+    };
+    let (ours, rows, trials) = run(plan);
+    let (other, ..) = run(&plain);
+    println!("{:<36} {trials:>18} {ours:>10.0} {other:>10.0} {:>7.1}", format!("{name}, {rows} rows"), ours / other);
+}
+
 /// The heads of the columns.
 fn heads(of: &str) {
     println!(
@@ -290,6 +312,14 @@ fn main() {
     bench_hostile("k 6, 512, for each of a layer", &plans::trap_with_rows(&mut Seeds(24), 6, 512, 512));
     bench_hostile("k 6, 10, all meet", &plans::all_meet(&mut Seeds(24), 6, 10));
     bench_hostile("k 3, 100, all meet", &plans::all_meet(&mut Seeds(24), 3, 100));
+
+    println!();
+    println!("{:<36} {:>18} {:>10} {:>10} {:>7}", "timed run of a hostile plan, us", "trials", "ours", "plain", "ratio");
+    let (trap, met) = (plans::trap(&mut Seeds(24), 6, 512), plans::trap_with_rows(&mut Seeds(24), 6, 512, 512));
+    bench_timed("k 6, 512, nested", &trap, &plans::nested(3_072));
+    bench_timed("k 6, 512, sliding", &trap, &plans::sliding(3_072));
+    bench_timed("k 6, 512, long and short", &trap, &plans::long_and_short(3_072));
+    bench_timed("k 6, 512, nested, for each", &met, &plans::nested(3_072));
 
     println!();
     println!(

@@ -62,3 +62,21 @@ pub fn all_meet(seeds: &mut Seeds, k: usize, n: u32) -> Plan {
     }
     Plan { shape: shape_of(&vec![n; k]), cells }
 }
+
+/// The minutes of a week.
+const WEEK: u32 = 10_080;
+
+/// So many windows that all differ, and all share the middle of the week.
+pub fn nested(n: u32) -> Vec<u32> {
+    (0..n).flat_map(|i| [i, WEEK - i]).collect()
+}
+
+/// So many windows that all differ, each for most of the time that the others need to begin: one ends whenever one begins.
+pub fn sliding(n: u32) -> Vec<u32> {
+    (0..n).map(|i| i * 1_237 % n).flat_map(|i| [i, i + n / 2]).collect()
+}
+
+/// So many windows that all differ, one half long and the other short and one after the other.
+pub fn long_and_short(n: u32) -> Vec<u32> {
+    (0..n).flat_map(|i| if i % 2 == 0 { [i / 2, WEEK - i / 2] } else { [n / 2 + 2 * i, n / 2 + 2 * i + 4] }).collect()
+}

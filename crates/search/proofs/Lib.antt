@@ -10,3 +10,4 @@ pub mod Positions
 pub mod Turns
 pub mod Narrowing
 pub mod Beside
+pub mod Bulk
