@@ -3,8 +3,7 @@
 use overlay_tests::picture::{compare_pictures, SLIPS};
 
 /// What is not read back: how large things are that are no ground, hatchings, the legend.
-const UNREAD: [&str; 8] = [
-    "a unit that may be 0",
+const UNREAD: [&str; 7] = [
     "a unit of the longer side",
     "a scale bar longer than 40 units",
     "no scale bar of a kilometre",

@@ -1,1 +1,2 @@
-// What the commands `apart`, `nearest` and `pairs` say of a plan text: defined in specs/. The code is in the crate `asking_code`.
+// What the commands `apart`, `nearest` and `pairs` say of a plan text: defined in specs/. The code is in the crates `asking_code` and
+// `asking_runs_code`.

@@ -1,5 +1,5 @@
-// What the commands `classes`, `hours` and `cover` of the program `overlay` say: their lines and outcomes, defined in specs/. The code is in the crate
-// `listing_code`.
+// What the commands `classes`, `hours` and `cover` of the program `overlay` say: their lines and outcomes, defined in specs/. The code is in the crates
+// `listing_code` and `listing_runs_code`.
 
 // What is wrong in a windows text (0: nothing), and in which of its lines.
 pub struct Fault {

@@ -13,12 +13,6 @@ ghost use Rattle.listing.specs.inner.Parts.{Ready, Prepared};
 // The longest input.
 pub const LONGEST_INPUT: usize = 65536;
 
-// The cells of the table that a whole run is made into.
-pub const RUN_TABLE_CELLS: usize = 12288;
-
-// The cells of its work buffer: two for each of at most 6,144 rows.
-pub const RUN_WORK_CELLS: usize = 12288;
-
 // Reads a plan text into the first of the lent cells, and makes its order in the first of the lent ones; or tells why the text is refused.
 pub fn prepare(text: &[u8], cells: &mut [i32], order: &mut [u32]) -> Reading
     requires { ⌜ (length (now cells) ≡ mostCells) × (length (now order) ≡ mostRects) ⌝ }

@@ -19,9 +19,11 @@ use Rattle.join.specs.Join.{commonIn, kindIn}
 use Rattle.printing.specs.Lines.{ROW, fieldsEnd, lineOf, rowFields, rowLine}
 use Rattle.picture.specs.declared.Frame.{Frame}
 use Rattle.picture.specs.Templates.{fill}
-use Rattle.picture.specs.Texts.{headText, openText, shapeText, grownText, closeText, rowsText, rowText, groundText, edgeText, pointText, tailText}
+use Rattle.picture.specs.Texts.{headText, openText, titleText, outlineText, hatchText, endText, marginText, closeText, legendText}
+use Rattle.picture.specs.Texts.{rowsText, rowText, groundText, edgeText, pointText, tailText}
 use Rattle.picture.specs.Markup.{State, start, text, end, step, scan}
-use Rattle.picture.specs.Pictures.{corners, shapeAt, shapesOf, moved, legend, layerPart, layerParts, mark, rowPart, rowParts, seen, scale, pictureOf}
+use Rattle.picture.specs.Pictures.{corners, outlined, shapeAt, shapesOf, moved, sample, legendPlace, legendSays, legend}
+use Rattle.picture.specs.Pictures.{layerPart, layerParts, mark, rowPart, rowParts, seen, scale, pictureOf}
 use Rattle.picture.proofs.Plain.{Plain, text-plain, byte-plain, plain-append, decimal-plain}
 use Rattle.picture.proofs.Markup.{scan-append, fill-scan}
 
@@ -35,17 +37,38 @@ svg = 115 ∷ 118 ∷ 103 ∷ []
 abbrev name-title : List ℕ
 name-title = 116 ∷ 105 ∷ 116 ∷ 108 ∷ 101 ∷ []
 
+-- one part after the other
+then-scan : (s t u : State) (a b : List ℕ) → scan s a ≡ t → scan t b ≡ u → scan s (a ++ b) ≡ u
+then-scan s t u a b p q = scan-append s a b ∙ (ap (λ (y : State). scan y b) p ∙ q)
+
+outline-scan : (o : List ℕ) (os : List (List ℕ)) (u j : ℕ) (r : Rect) → scan (text (o ∷ os)) (outlined u j r) ≡ text (o ∷ os)
+unfolding outlined step outlineText hatchText
+outline-scan o os u j r =
+    let here : State = text (o ∷ os) in
+    then-scan _ _ _ (fill outlineText (corners r)) _ (fill-scan outlineText _ here here refl refl) (fill-scan hatchText _ here here refl refl)
+
 module _ (o : List ℕ) (os : List (List ℕ)) where
   abbrev here : State
   here = text (o ∷ os)
 
-  shape-scan : (j m p : ℕ) (r : Rect) → scan here (shapeAt j m p r) ≡ here
-  unfolding shapeAt step shapeText grownText
-  shape-scan j m p r = go (eqb m 0)
-    where
-      go : (t : Bool) → scan here (fill (cond t shapeText grownText) (pos j ∷ pos p ∷ (corners r ++ corners (grownBy m r)))) ≡ here
-      go true = fill-scan shapeText _ here here refl refl
-      go false = fill-scan grownText _ here here refl refl
+  -- after a rectangle's title
+  abbrev in-shape : State
+  in-shape = text (g ∷ o ∷ os)
+
+  shape-open : (zs : List ℤ) → scan here (fill titleText zs) ≡ in-shape
+  unfolding step titleText
+  shape-open zs = fill-scan titleText zs here in-shape refl refl
+
+  shape-close : (t : Bool) (zs : List ℤ) → scan in-shape (fill (cond t endText marginText) zs) ≡ here
+  unfolding step endText marginText
+  shape-close true zs = fill-scan endText zs in-shape here refl refl
+  shape-close false zs = fill-scan marginText zs in-shape here refl refl
+
+  shape-scan : (u j m p : ℕ) (r : Rect) → scan here (shapeAt u j m p r) ≡ here
+  unfolding shapeAt
+  shape-scan u j m p r =
+      then-scan _ _ _ (fill titleText (pos j ∷ pos p ∷ [])) _ (shape-open (pos j ∷ pos p ∷ []))
+      (then-scan _ _ _ (outlined u j r) _ (outline-scan g (o ∷ os) u j r) (shape-close (eqb m 0) (corners (grownBy m r))))
 
   each-scan : (f : ℕ → List ℕ) → ((p : ℕ) → scan here (f p) ≡ here) → (p n : ℕ) → scan here (each f p n) ≡ here
   each-scan f h p zero = refl
@@ -65,25 +88,33 @@ module _ (o : List ℕ) (os : List (List ℕ)) where
   unfolding step rowText
   row-open = refl
 
--- one part after the other
-then-scan : (s t u : State) (a b : List ℕ) → scan s a ≡ t → scan t b ≡ u → scan s (a ++ b) ≡ u
-then-scan s t u a b p q = scan-append s a b ∙ (ap (λ (y : State). scan y b) p ∙ q)
-
 -- ---- a layer
 layer-open : (o : List ℕ) (os : List (List ℕ)) (zs : List ℤ) → scan (text (o ∷ os)) (fill openText zs) ≡ text (g ∷ g ∷ o ∷ os)
 unfolding step openText
 layer-open o os zs = fill-scan openText zs (text (o ∷ os)) (text (g ∷ g ∷ o ∷ os)) refl refl
 
-layer-close : (o : List ℕ) (os : List (List ℕ)) (zs : List ℤ) → scan (text (g ∷ g ∷ o ∷ os)) (fill closeText zs) ≡ text (o ∷ os)
+legend-open : (o : List ℕ) (os : List (List ℕ)) (zs : List ℤ) → scan (text (g ∷ g ∷ o ∷ os)) (fill closeText zs) ≡ text (g ∷ g ∷ g ∷ o ∷ os)
 unfolding step closeText
-layer-close o os zs = fill-scan closeText zs (text (g ∷ g ∷ o ∷ os)) (text (o ∷ os)) refl refl
+legend-open o os zs = fill-scan closeText zs (text (g ∷ g ∷ o ∷ os)) (text (g ∷ g ∷ g ∷ o ∷ os)) refl refl
+
+legend-close : (o : List ℕ) (os : List (List ℕ)) (zs : List ℤ) → scan (text (g ∷ g ∷ g ∷ o ∷ os)) (fill legendText zs) ≡ text (o ∷ os)
+unfolding step legendText
+legend-close o os zs = fill-scan legendText zs (text (g ∷ g ∷ g ∷ o ∷ os)) (text (o ∷ os)) refl refl
+
+legend-scan : (o : List ℕ) (os : List (List ℕ)) (f : Frame) (j m n : ℕ) → scan (text (g ∷ g ∷ o ∷ os)) (legend f j m n) ≡ text (o ∷ os)
+unfolding legend
+legend-scan o os f j m n =
+    then-scan _ _ _ (fill closeText (legendPlace f j)) _ (legend-open o os (legendPlace f j))
+    (then-scan _ _ _ (outlined (f .unit) j (sample (f .unit))) _ (outline-scan g (g ∷ g ∷ o ∷ os) (f .unit) j (sample (f .unit)))
+    (legend-close o os (legendSays f j m n)))
 
 layer-scan : (o : List ℕ) (os : List (List ℕ)) (f : Frame) (j m : ℕ) (l : Layer) → scan (text (o ∷ os)) (layerPart f j m l) ≡ text (o ∷ os)
 unfolding layerPart
 layer-scan o os f j m l =
+    let u = f .unit in
     then-scan _ _ _ (fill openText (pos j ∷ moved f)) _ (layer-open o os (pos j ∷ moved f))
-    (then-scan _ _ _ (shapesOf j m l) _ (each-scan g (g ∷ o ∷ os) (λ p. shapeAt j m p (l .rect p)) (λ p. shape-scan g (g ∷ o ∷ os) j m p (l .rect p)) 0 (l .size))
-    (layer-close o os (legend f j m (l .size))))
+    (then-scan _ _ _ (shapesOf u j m l) _ (each-scan g (g ∷ o ∷ os) (λ p. shapeAt u j m p (l .rect p)) (λ p. shape-scan g (g ∷ o ∷ os) u j m p (l .rect p)) 0 (l .size))
+    (legend-scan o os f j m (l .size)))
 
 layers-scan : (o : List ℕ) (os : List (List ℕ)) (f : Frame) (ms : List ℕ) (j : ℕ) (ls : List Layer) → scan (text (o ∷ os)) (layerParts f ms j ls) ≡ text (o ∷ os)
 layers-scan o os f ms j [] = refl

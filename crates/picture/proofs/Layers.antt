@@ -16,18 +16,27 @@ use Rattle.printing.specs.inner.Parts.{FitsAt}
 use Rattle.printing.proofs.Puts.{room-front, room-left}
 use Rattle.picture.specs.declared.Frame.{Frame}
 use Rattle.picture.specs.Templates.{fill}
-use Rattle.picture.specs.Texts.{openText, closeText}
-use Rattle.picture.specs.Pictures.{moved, legend, layerPart, layerParts}
+use Rattle.picture.specs.Texts.{openText, closeText, legendText}
+use Rattle.picture.specs.Pictures.{moved, outlined, sample, legendPlace, legendSays, legend, layerPart, layerParts}
 use Rattle.picture.specs.inner.Parts.{LayerDrawable, LayersDrawable, shapesIn, layerIn}
 
 -- ---- a layer
 module _ (f : Frame) (j m : ℕ) (cells : List ℤ) (n : ℕ) where
-  pub layer-is : layerIn f j m cells n ≡ fill openText (pos j ∷ moved f) ++ (shapesIn j m cells n ++ fill closeText (legend f j m n))
+  pub layer-is : layerIn f j m cells n ≡ fill openText (pos j ∷ moved f) ++ (shapesIn (f .unit) j m cells n ++ legend f j m n)
   unfolding layerPart
   layer-is = refl
 
   pub open-room : (buf : List ℕ) (at : ℕ) → FitsAt buf at (layerIn f j m cells n) → FitsAt buf at (fill openText (pos j ∷ moved f))
   open-room buf at h = room-front buf at _ _ _ h layer-is
+
+-- ---- its line of the legend
+module _ (f : Frame) (j m n : ℕ) where
+  pub legend-is : legend f j m n ≡ fill closeText (legendPlace f j) ++ (outlined (f .unit) j (sample (f .unit)) ++ fill legendText (legendSays f j m n))
+  unfolding legend
+  legend-is = refl
+
+  pub place-room : (buf : List ℕ) (at : ℕ) → FitsAt buf at (legend f j m n) → FitsAt buf at (fill closeText (legendPlace f j))
+  place-room buf at h = room-front buf at _ _ _ h legend-is
 
 -- ---- the loop over layers: what is put, and the layers from j on, give all
 module _ (f : Frame) (ns ms : List ℕ) (cells : List ℤ) (first : List ℕ) (from : ℕ) where

@@ -19,40 +19,73 @@ use Rattle.printing.specs.Lines.{rowLine}
 use Rattle.printing.proofs.Lines.{rows-few}
 use Rattle.picture.specs.declared.Frame.{Frame}
 use Rattle.picture.specs.Templates.{fill}
-use Rattle.picture.specs.Texts.{headText, openText, shapeText, grownText, closeText, rowsText, rowText, groundText, edgeText, pointText, tailText}
-use Rattle.picture.specs.Pictures.{corners, shapeAt, shapesOf, moved, legend, layerPart, layerParts, mark, rowPart, rowParts, seen, scale, pictureOf}
+use Rattle.picture.specs.Texts.{headText, openText, titleText, outlineText, hatchText, endText, marginText, closeText, legendText}
+use Rattle.picture.specs.Texts.{rowsText, rowText, groundText, edgeText, pointText, tailText}
+use Rattle.picture.specs.Pictures.{corners, outlined, grownPart, shapeAt, shapesOf, moved, sample, legendPlace, legendSays, legend}
+use Rattle.picture.specs.Pictures.{layerPart, layerParts, mark, rowPart, rowParts, seen, scale, pictureOf}
+use Rattle.picture.specs.Hatchings.{hatchingOf, beyond, points}
 use Rattle.picture.proofs.Fills.{fill-few}
 
 -- ---- rectangles
-shape-few : (j m p : ℕ) (r : Rect) → length (shapeAt j m p r) ≤ 400
-unfolding shapeAt shapeText grownText
-shape-few j m p r = go (eqb m 0)
-  where
-    zs : List ℤ
-    zs = pos j ∷ pos p ∷ (corners r ++ corners (grownBy m r))
+outline-few : (u j : ℕ) (r : Rect) → length (outlined u j r) ≤ 500
+unfolding outlined outlineText hatchText
+outline-few u j r =
+    let zs = points (beyond u r) r (hatchingOf j) in
+    omega (arith, length-append (fill outlineText (corners r)) (fill hatchText zs), fill-few outlineText (corners r), fill-few hatchText zs)
 
-    go : (t : Bool) → length (fill (cond t shapeText grownText) zs) ≤ 400
-    go true = omega (arith, fill-few shapeText zs)
-    go false = omega (arith, fill-few grownText zs)
+close-few : (t : Bool) (zs : List ℤ) → length (fill (cond t endText marginText) zs) ≤ 100 + 21 * length zs
+unfolding endText marginText
+close-few true zs = omega (arith, fill-few endText zs)
+close-few false zs = omega (arith, fill-few marginText zs)
+
+shape-few : (u j m p : ℕ) (r : Rect) → length (shapeAt u j m p r) ≤ 800
+unfolding shapeAt titleText
+shape-few u j m p r =
+    let a = fill titleText (pos j ∷ pos p ∷ []) in
+    let b = grownPart m r in
+    omega (
+      arith,
+      length-append a (outlined u j r ++ b),
+      length-append (outlined u j r) b,
+      fill-few titleText (pos j ∷ pos p ∷ []),
+      outline-few u j r,
+      close-few (eqb m 0) (corners (grownBy m r)),
+    )
 
 each-few : (f : ℕ → List ℕ) (m : ℕ) → ((p : ℕ) → length (f p) ≤ m) → (p n : ℕ) → length (each f p n) ≤ m * n
 each-few f m h p zero = omega arith
 each-few f m h p (suc n) = let e : m * suc n ≡ m + m * n = omega arith in omega (arith, e, length-append (f p) (each f (suc p) n), h p, each-few f m h (suc p) n)
 
 -- ---- layers
-layer-few : (f : Frame) (j m : ℕ) (l : Layer) → length (layerPart f j m l) ≤ 600 + 400 * l .size
-unfolding layerPart openText closeText
-layer-few f j m l =
+legend-few : (f : Frame) (j m n : ℕ) → length (legend f j m n) ≤ 900
+unfolding legend closeText legendText
+legend-few f j m n =
+    let a = fill closeText (legendPlace f j) in
+    let b = outlined (f .unit) j (sample (f .unit)) in
+    let zs = legendSays f j m n in
     omega (
       arith,
-      length-append (fill openText (pos j ∷ moved f)) (shapesOf j m l ++ fill closeText (legend f j m (l .size))),
-      length-append (shapesOf j m l) (fill closeText (legend f j m (l .size))),
-      fill-few openText (pos j ∷ moved f),
-      fill-few closeText (legend f j m (l .size)),
-      each-few (λ p. shapeAt j m p (l .rect p)) 400 (λ p. shape-few j m p (l .rect p)) 0 (l .size),
+      length-append a (b ++ fill legendText zs),
+      length-append b (fill legendText zs),
+      fill-few closeText (legendPlace f j),
+      outline-few (f .unit) j (sample (f .unit)),
+      fill-few legendText zs,
     )
 
-layers-few : (f : Frame) (ms : List ℕ) (j : ℕ) (ns : List ℕ) (cells : List ℤ) → length (layerParts f ms j (layersOf ns cells)) ≤ 600 * length ns + 400 * sum ns
+layer-few : (f : Frame) (j m : ℕ) (l : Layer) → length (layerPart f j m l) ≤ 1100 + 800 * l .size
+unfolding layerPart openText
+layer-few f j m l =
+    let u = f .unit in
+    omega (
+      arith,
+      length-append (fill openText (pos j ∷ moved f)) (shapesOf u j m l ++ legend f j m (l .size)),
+      length-append (shapesOf u j m l) (legend f j m (l .size)),
+      fill-few openText (pos j ∷ moved f),
+      legend-few f j m (l .size),
+      each-few (λ p. shapeAt u j m p (l .rect p)) 800 (λ p. shape-few u j m p (l .rect p)) 0 (l .size),
+    )
+
+layers-few : (f : Frame) (ms : List ℕ) (j : ℕ) (ns : List ℕ) (cells : List ℤ) → length (layerParts f ms j (layersOf ns cells)) ≤ 1100 * length ns + 800 * sum ns
 layers-few f ms j [] cells = omega arith
 layers-few f ms j (n ∷ ns) cells =
     let l : Layer = record { size = n; rect = rectAt (take (4 * n) cells) } in
@@ -90,7 +123,7 @@ parts-few u ls (row ∷ rows) =
 
 -- ---- the whole
 pub picture-few : (f : Frame) (ms ns : List ℕ) (cells : List ℤ) (ls : List Layer) (rows : List (List ℕ))
-    → length (pictureOf f ms (layersOf ns cells) ls rows) ≤ 4000 + 600 * length ns + 400 * sum ns + 300 * length rows + 21 * length (cellsOf rows)
+    → length (pictureOf f ms (layersOf ns cells) ls rows) ≤ 4000 + 1100 * length ns + 800 * sum ns + 300 * length rows + 21 * length (cellsOf rows)
 unfolding pictureOf headText rowsText tailText
 picture-few f ms ns cells ls rows =
     let a = layerParts f ms 0 (layersOf ns cells) in

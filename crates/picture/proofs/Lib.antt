@@ -2,6 +2,7 @@
 pub mod Signs
 pub mod Fills
 pub mod Frames
+pub mod Hatchings
 pub mod Shapes
 pub mod Layers
 pub mod Marks

@@ -20,11 +20,13 @@ use Rattle.join.specs.Join.{commonIn, kindIn}
 use Rattle.outcomes.specs.Texts.{ascii}
 use Rattle.printing.specs.Lines.{rowLine}
 use Rattle.picture.specs.Templates.{piece, later}
-use Rattle.picture.specs.Texts.{shapeText, grownText, rowText, groundText, edgeText}
+use Rattle.picture.specs.Texts.{titleText, outlineText, hatchText, endText, marginText, rowText, groundText, edgeText}
 use Rattle.picture.specs.Frames.{around, hull, frameOf}
-use Rattle.picture.specs.Pictures.{shapeAt, mark, rowPart, seen}
-use Rattle.picture.specs.Theorems.{PicturesHold, pathThen, titleThen}
+use Rattle.picture.specs.Pictures.{outlined, shapeAt, mark, rowPart, seen}
+use Rattle.picture.specs.Hatchings.{hatchingOf, beyond, points}
+use Rattle.picture.specs.Theorems.{PicturesHold, pathThen, lineThen, titleOf}
 use Rattle.picture.proofs.Formed.{formed}
+use Rattle.picture.proofs.Hatchings.{stroke-within, spread-none, spot-is, pen-few}
 use Rattle.picture.proofs.Whole.{said-of, layer-is, point-at, whole-is, view-is, longer-first, sides-are}
 
 -- ---- each once, in its order
@@ -34,14 +36,19 @@ each-flat f p zero = refl
 each-flat f p (suc n) = ap (λ (l : List ℕ). f p ++ l) (each-flat f (suc p) n)
 
 -- ---- where they lie
-drawn-at : (j p : ℕ) (r : Rect) → shapeAt j 0 p r ≡ titleThen j p (ascii "<path d='" ++ pathThen r (ascii "'/></g>\n"))
-unfolding shapeAt shapeText piece later numeral
-drawn-at j p r = refl
+drawn-at : (u j p : ℕ) (r : Rect) → shapeAt u j 0 p r ≡ titleOf j p ++ (outlined u j r ++ ascii "</g>\n")
+unfolding shapeAt titleText endText piece later numeral
+drawn-at u j p r = refl
 
-grown-at : (j m p : ℕ) (r : Rect) → 0 < m
-    → shapeAt j m p r ≡ titleThen j p (ascii "<path d='" ++ pathThen r (ascii "'/><path class='m' d='" ++ pathThen (grownBy m r) (ascii "'/></g>\n")))
-unfolding shapeAt grownText piece later numeral
-grown-at j m p r h = rw (ne-eqb m 0 (λ e. omega arith)) refl
+grown-at : (u j m p : ℕ) (r : Rect) → 0 < m
+    → shapeAt u j m p r ≡ titleOf j p ++ (outlined u j r ++ (ascii "<path class='m' d='" ++ pathThen (grownBy m r) (ascii "'/></g>\n")))
+unfolding shapeAt titleText marginText piece later numeral
+grown-at u j m p r h = rw (ne-eqb m 0 (λ e. omega arith)) refl
+
+outline-at : (u j : ℕ) (r : Rect) → outlined u j r
+    ≡ (ascii "<path d='" ++ pathThen r (ascii "'/>")) ++ (ascii "<path class='h' d='" ++ lineThen (points (beyond u r) r (hatchingOf j)) (ascii "'/>"))
+unfolding outlined outlineText hatchText piece later
+outline-at u j r = refl
 
 titled-at : (u : ℕ) (ls : List Layer) (row : List ℕ) → rowPart u ls row ≡ ascii "<g><title>" ++ (rowLine ls row ++ mark u (kindIn ls row) (commonIn ls row))
 unfolding rowPart rowText
@@ -96,14 +103,19 @@ pictures =
       whole = whole-is;
       layer = layer-is;
       formed = formed;
-      shapes = λ j m l. each-flat (λ p. shapeAt j m p (l .rect p)) 0 (l .size);
+      shapes = λ u j m l. each-flat (λ p. shapeAt u j m p (l .rect p)) 0 (l .size);
       drawn = drawn-at;
       grown = grown-at;
+      outline = outline-at;
+      strokes = stroke-within;
+      spread = spread-none;
+      spot = spot-is;
       titled = titled-at;
       ground = ground-at;
       edge = edge-at;
       point = point-at;
       view = view-is;
+      pens = pen-few;
       enough = λ f. longer-first (f .height) (30 * f .unit);
       sides = sides-are;
       inside = λ cells i h. hull-around (rectAt cells) (count cells) i h;

@@ -27,7 +27,7 @@ use Rattle.outcomes.specs.Outcomes.{done, refused}
 use Rattle.listing.specs.Plans.{textCause, onPlan}
 use Rattle.picture.specs.declared.Frame.{Frame}
 use Rattle.picture.specs.Templates.{piece, later, fill}
-use Rattle.picture.specs.Texts.{headText, openText, closeText, rowsText, pointText, tailText}
+use Rattle.picture.specs.Texts.{headText, openText, rowsText, pointText, tailText}
 use Rattle.picture.specs.Frames.{frameOf, longer}
 use Rattle.picture.specs.Pictures.{shapesOf, legend, layerPart, layerParts, mark, rowPart, rowParts, seen, scale, pictureOf, picture, planPicture, pictureSaid}
 use Rattle.picture.specs.Theorems.{northUp}
@@ -63,7 +63,7 @@ layers-flat f ms g j (l ∷ ls) h =
 
 -- ---- in literals
 pub layer-is : (f : Frame) (j m : ℕ) (l : Layer) → layerPart f j m l
-    ≡ (ascii "<g class='l" ++ (decimal j ++ (ascii "'>" ++ northUp f))) ++ (shapesOf j m l ++ fill closeText (legend f j m (l .size)))
+    ≡ (ascii "<g class='l" ++ (decimal j ++ (ascii "'>" ++ northUp f))) ++ (shapesOf (f .unit) j m l ++ legend f j m (l .size))
 unfolding layerPart openText piece later numeral
 layer-is f j m l = refl
 

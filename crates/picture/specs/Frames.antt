@@ -33,6 +33,10 @@ frameOf r =
 unfoldable pub longer : ℕ → ℕ → ℕ
 longer a b = cond (leb a b) b a
 
+-- the width of a line of n tenths of a millimetre, in tenths: at most 32,767 millimetres, since some viewers do not draw a wider one
+unfoldable pub widthOf : (n : ℕ) → ℕ
+widthOf n = cond (leb n 327670) n 327670
+
 -- the length of the scale bar: the longest of 10 millimetres to 1,000 metres, each ten times the one before, that is at most 40 units; 10 where none is
 unfoldable pub barOf : (unit : ℕ) → ℕ
 barOf u =

@@ -2,6 +2,7 @@ pub mod Templates
 pub mod Texts
 pub mod Markup
 pub mod Frames
+pub mod Hatchings
 pub mod Pictures
 pub mod Theorems
 pub mod Cases

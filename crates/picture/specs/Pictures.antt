@@ -25,36 +25,57 @@ use Rattle.outcomes.specs.Outcomes.{Outcome, done, refused}
 use Rattle.listing.specs.Plans.{onPlan}
 use Rattle.picture.specs.declared.Frame.{Frame}
 use Rattle.picture.specs.Templates.{fill}
-use Rattle.picture.specs.Texts.{headText, openText, shapeText, grownText, closeText, rowsText, rowText, groundText, edgeText, pointText, tailText}
-use Rattle.picture.specs.Frames.{groundOf, frameOf, longer, barOf}
+use Rattle.picture.specs.Texts.{headText, openText, titleText, outlineText, hatchText, endText, marginText, closeText, legendText}
+use Rattle.picture.specs.Texts.{rowsText, rowText, groundText, edgeText, pointText, tailText}
+use Rattle.picture.specs.Frames.{groundOf, frameOf, longer, widthOf, barOf}
+use Rattle.picture.specs.Hatchings.{hatchingOf, beyond, points}
 
 -- ---- rectangles
 -- the numbers of a rectangle's path: to its left bottom corner, and then to its right, its top and its left
 abbrev pub corners : Rect → List ℤ
 corners r = r .left ∷ r .bottom ∷ r .right ∷ r .top ∷ r .left ∷ []
 
--- the rectangle at a place of a layer, both numbered as in the report, as it is drawn and, where its layer has a margin, grown by it
-unfoldable pub shapeAt : (layer margin place : ℕ) → Rect → List ℕ
-shapeAt j m p r = fill (cond (eqb m 0) shapeText grownText) (pos j ∷ pos p ∷ (corners r ++ corners (grownBy m r)))
+-- the outline of a rectangle, and its layer's hatching in it
+unfoldable pub outlined : (unit layer : ℕ) → Rect → List ℕ
+outlined u j r = fill outlineText (corners r) ++ fill hatchText (points (beyond u r) r (hatchingOf j))
+
+-- its end: where its layer has a margin, it is drawn grown by it
+abbrev pub grownPart : (margin : ℕ) → Rect → List ℕ
+grownPart m r = fill (cond (eqb m 0) endText marginText) (corners (grownBy m r))
+
+-- the rectangle at a place of a layer, both numbered as in the report
+unfoldable pub shapeAt : (unit layer margin place : ℕ) → Rect → List ℕ
+shapeAt u j m p r = fill titleText (pos j ∷ pos p ∷ []) ++ (outlined u j r ++ grownPart m r)
 
 -- ---- layers
 -- all rectangles of a layer, in their order
-abbrev pub shapesOf : (layer margin : ℕ) → Layer → List ℕ
-shapesOf j m l = each (λ p. shapeAt j m p (l .rect p)) 0 (l .size)
+abbrev pub shapesOf : (unit layer margin : ℕ) → Layer → List ℕ
+shapesOf u j m l = each (λ p. shapeAt u j m p (l .rect p)) 0 (l .size)
 
 -- how far the ground is moved, so that its left and top are at 0
 abbrev pub moved : Frame → List ℤ
 moved f = negℤ (f .left) ∷ negℤ (f .top) ∷ []
 
--- what stands in a layer's line of the legend: its place at the right of the ground, its hatching's width and height, its text
-abbrev pub legend : Frame → (layer margin size : ℕ) → List ℤ
+-- the sample of a layer in the legend
+abbrev pub sample : (unit : ℕ) → Rect
+sample u = record { left = pos 0; bottom = pos 0; right = pos (4 * u); top = pos (2 * u) }
+
+-- where a layer's line of the legend stands: at the right of the ground, a line for each layer
+abbrev pub legendPlace : Frame → (layer : ℕ) → List ℤ
+legendPlace f j = pos (f .width + 5 * f .unit) ∷ pos (3 * f .unit * j + 2 * f .unit) ∷ []
+
+-- what it says: the layer, how many rectangles it has and its margin
+abbrev pub legendSays : Frame → (layer margin size : ℕ) → List ℤ
+legendSays f j m n = pos (f .unit) ∷ pos j ∷ pos n ∷ pos m ∷ []
+
+-- the line, with a sample
+unfoldable pub legend : Frame → (layer margin size : ℕ) → List ℕ
 legend f j m n =
-    let u = f .unit in
-    pos (f .width + 5 * u) ∷ pos (3 * u * j) ∷ pos (4 * u) ∷ pos (2 * u) ∷ pos u ∷ pos j ∷ pos n ∷ pos m ∷ []
+    fill closeText (legendPlace f j) ++ (outlined (f .unit) j (sample (f .unit)) ++ fill legendText (legendSays f j m n))
 
 -- a layer and its line of the legend
 unfoldable pub layerPart : Frame → (layer margin : ℕ) → Layer → List ℕ
-layerPart f j m l = fill openText (pos j ∷ moved f) ++ (shapesOf j m l ++ fill closeText (legend f j m (l .size)))
+layerPart f j m l = fill openText (pos j ∷ moved f) ++ (shapesOf (f .unit) j m l ++ legend f j m (l .size))
 
 -- layers from the one at j on, counted from 0; 01 numbers them from 1
 abbrev pub layerParts : Frame → (margins : List ℕ) → (j : ℕ) → List Layer → List ℕ
@@ -82,14 +103,14 @@ rowParts u ls (row ∷ rows) = rowPart u ls row ++ rowParts u ls rows
 abbrev pub tenths : ℕ → List ℤ → List ℤ
 tenths n more = pos (n / 10) ∷ pos (n % 10) ∷ more
 
--- the part of the ground that is seen, with 5 units around it and 55 more at its right for the legend; lines of 3 tenths of a unit, dashes of 8 with gaps of 6,
--- thick lines of 6; the unit of each hatching; and the white ground, which is all that is seen
+-- the part of the ground that is seen, with 5 units around it and 55 more at its right for the legend; lines of 3 tenths of a unit, those of hatchings of 2,
+-- dashes of 8 with gaps of 6, thick lines of 6; and the white ground, which is all that is seen
 abbrev pub seen : Frame → List ℤ
 seen f =
-    let n = f .unit in let u = pos n in let e = pos (5 * n) in
+    let n = f .unit in let e = pos (5 * n) in
     let w = pos (f .width + 65 * n) in let h = pos (longer (f .height) (30 * n) + 10 * n) in
     e ∷ e ∷ w ∷ h
-    ∷ tenths (3 * n) (tenths (8 * n) (tenths (6 * n) (tenths (6 * n) (u ∷ u ∷ u ∷ u ∷ u ∷ u ∷ e ∷ e ∷ w ∷ h ∷ []))))
+    ∷ tenths (widthOf (3 * n)) (tenths (widthOf (2 * n)) (tenths (8 * n) (tenths (6 * n) (tenths (widthOf (6 * n)) (e ∷ e ∷ w ∷ h ∷ [])))))
 
 -- the number of rows, and the scale bar: its length, and its metres with three decimals
 abbrev pub scale : Frame → (rows : ℕ) → List ℤ

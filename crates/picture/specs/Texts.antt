@@ -3,45 +3,49 @@ use mathlib.Core.List.{List, _++_}
 use Prim.Native.Nat.{ℕ}
 use Rattle.outcomes.specs.Texts.{ascii}
 
--- the head: the part of the ground that is seen, how each layer is drawn (a colour and a hatching), and white ground
+-- the head: the part of the ground that is seen, how each layer is drawn (a colour), how its hatching and its margin are, and white ground
 unfoldable pub headText : List ℕ
 headText = ascii "<svg xmlns='http://www.w3.org/2000/svg' viewBox='-@ -@ @ @'>\n<style>\n"
-    ++ ascii "path{stroke-width:@.@px;stroke-linecap:round;stroke-linejoin:round}\n"
+    ++ ascii "path{stroke-width:@.@px;stroke-linecap:round;stroke-linejoin:round;fill-opacity:.1}\n"
     ++ ascii "text{font-family:sans-serif;font-size:2px;fill:#000;stroke:none}\n"
-    ++ ascii ".l1{stroke:#0072b2;fill:url(#h1)}\n.l2{stroke:#d55e00;fill:url(#h2)}\n.l3{stroke:#009e73;fill:url(#h3)}\n"
-    ++ ascii ".l4{stroke:#cc79a7;fill:url(#h4)}\n.l5{stroke:#56b4e9;fill:url(#h5)}\n.l6{stroke:#e69f00;fill:url(#h6)}\n"
-    ++ ascii ".m{fill:none;stroke-dasharray:@.@ @.@}\n.g{stroke:#000;fill:#000;fill-opacity:.5}\n"
-    ++ ascii ".e{stroke:#000;stroke-width:@.@px;fill:none}\n.p{stroke:#000;stroke-width:.6px;fill:none}\n.k{stroke-width:.3px}\n</style>\n<defs>\n"
-    ++ ascii "<pattern id='h1' width='2' height='2' patternUnits='userSpaceOnUse' patternTransform='scale(@)'>"
-    ++ ascii "<rect y='.4' width='2' height='.3' fill='#0072b2'/></pattern>\n"
-    ++ ascii "<pattern id='h2' width='2' height='2' patternUnits='userSpaceOnUse' patternTransform='scale(@)'>"
-    ++ ascii "<rect x='.4' width='.3' height='2' fill='#d55e00'/></pattern>\n"
-    ++ ascii "<pattern id='h3' width='2' height='2' patternUnits='userSpaceOnUse' patternTransform='scale(@) rotate(45)'>"
-    ++ ascii "<rect width='.3' height='2' fill='#009e73'/></pattern>\n"
-    ++ ascii "<pattern id='h4' width='2' height='2' patternUnits='userSpaceOnUse' patternTransform='scale(@) rotate(-45)'>"
-    ++ ascii "<rect width='.3' height='2' fill='#cc79a7'/></pattern>\n"
-    ++ ascii "<pattern id='h5' width='2' height='2' patternUnits='userSpaceOnUse' patternTransform='scale(@)'>"
-    ++ ascii "<circle cx='1' cy='1' r='.4' fill='#56b4e9'/></pattern>\n"
-    ++ ascii "<pattern id='h6' width='2' height='2' patternUnits='userSpaceOnUse' patternTransform='scale(@)'>"
-    ++ ascii "<rect x='.8' y='1.2' width='1.1' height='.3' fill='#e69f00'/><rect x='1.2' y='.8' width='.3' height='1.1' fill='#e69f00'/></pattern>\n"
-    ++ ascii "</defs>\n<rect x='-@' y='-@' width='@' height='@' fill='#fff'/>\n"
+    ++ ascii ".l1{stroke:#0072b2;fill:#0072b2}\n.l2{stroke:#d55e00;fill:#d55e00}\n.l3{stroke:#009e73;fill:#009e73}\n"
+    ++ ascii ".l4{stroke:#cc79a7;fill:#cc79a7}\n.l5{stroke:#56b4e9;fill:#56b4e9}\n.l6{stroke:#e69f00;fill:#e69f00}\n"
+    ++ ascii ".h{stroke-width:@.@px;fill:none}\n.m{fill:none;stroke-dasharray:@.@ @.@}\n.g{stroke:#000;fill:#000;fill-opacity:.5}\n"
+    ++ ascii ".e{stroke:#000;stroke-width:@.@px;fill:none}\n.p{stroke:#000;stroke-width:.6px;fill:none}\n.k{stroke-width:.3px}\n</style>\n"
+    ++ ascii "<rect x='-@' y='-@' width='@' height='@' fill='#fff'/>\n"
 
 -- a layer's rectangles: its number, and how far the ground is moved; north is up, so y grows upward
 unfoldable pub openText : List ℕ
 openText = ascii "<g class='l@'><g transform='scale(1 -1) translate(@ @)'>\n"
 
--- a rectangle: its layer and place, and its corners
-unfoldable pub shapeText : List ℕ
-shapeText = ascii "<g><title>layer @, place @</title><path d='M@ @H@V@H@Z'/></g>\n"
+-- a rectangle's title: its layer and place
+unfoldable pub titleText : List ℕ
+titleText = ascii "<g><title>layer @, place @</title>"
 
--- a rectangle of a layer with a margin, and the grown one around it, dashed
-unfoldable pub grownText : List ℕ
-grownText = ascii "<g><title>layer @, place @</title><path d='M@ @H@V@H@Z'/><path class='m' d='M@ @H@V@H@Z'/></g>\n"
+-- its outline
+unfoldable pub outlineText : List ℕ
+outlineText = ascii "<path d='M@ @H@V@H@Z'/>"
 
--- the end of a layer, and its line of the legend; its sample has north up too, so that a hatching leans there as it does on the ground
+-- its hatching
+unfoldable pub hatchText : List ℕ
+hatchText = ascii "<path class='h' d='M@ @L@ @ @ @ @ @ @ @ @ @'/>"
+
+-- its end
+unfoldable pub endText : List ℕ
+endText = ascii "</g>\n"
+
+-- .. in a layer with a margin: the grown rectangle around it, dashed
+unfoldable pub marginText : List ℕ
+marginText = ascii "<path class='m' d='M@ @H@V@H@Z'/></g>\n"
+
+-- the end of a layer, and where its line of the legend stands: at the bottom of its sample, which has north up too, so that a hatching leans there as it
+-- does on the ground
 unfoldable pub closeText : List ℕ
-closeText = ascii "</g><g transform='translate(@ @)'><path transform='scale(1 -1)' d='M0 0h@v-@H0Z'/>"
-    ++ ascii "<g transform='scale(@)'><text x='5' y='1.7'>layer @, rectangles: @, margin: @ mm</text></g></g></g>\n"
+closeText = ascii "</g><g transform='translate(@ @)'><g transform='scale(1 -1)'>"
+
+-- behind the sample what the line says
+unfoldable pub legendText : List ℕ
+legendText = ascii "</g><g transform='scale(@)'><text x='5' y='-.3'>layer @, rectangles: @, margin: @ mm</text></g></g></g>\n"
 
 -- the rows, which stand on top
 unfoldable pub rowsText : List ℕ

@@ -1,11 +1,12 @@
 -- Theorem: what a picture has, for every plan: well-formed markup, each rectangle and each row once, in its order and at its coordinates. Proved in
 -- proofs/Theorems.antt.
 use mathlib.Core.Path.{_≡_}
-use mathlib.Core.List.{List, _++_, flatMap}
-use Prim.Native.Nat.{ℕ, suc, _+_, _*_, _<_, _≤_}
+use mathlib.Core.List.{List, [], _∷_, _++_, flatMap}
+use mathlib.Core.Logic.{_⊎_}
+use Prim.Native.Nat.{ℕ, suc, _+_, _*_, _/_, _<_, _≤_}
 use lib.IntN.{ℤ, pos, negℤ, _-ℤ_}
 use lib.ListN.{length, getD, drop}
-use lib.Signed.{_≤ℤ_}
+use lib.Signed.{_≤ℤ_, _<ℤ_}
 use Rattle.lists.specs.Lists.{upto}
 use Rattle.geometry.specs.declared.Rect.{Rect}
 use Rattle.geometry.specs.declared.Kind.the-variants.{Ground, Edge, Point}
@@ -22,10 +23,11 @@ use Rattle.outcomes.specs.Texts.{ascii}
 use Rattle.outcomes.specs.Outcomes.{done, refused}
 use Rattle.picture.specs.declared.Frame.{Frame}
 use Rattle.picture.specs.Templates.{fill}
-use Rattle.picture.specs.Texts.{headText, closeText, tailText}
+use Rattle.picture.specs.Texts.{headText, tailText}
 use Rattle.picture.specs.Markup.{start, end, scan}
-use Rattle.picture.specs.Frames.{groundOf, frameOf, longer}
-use Rattle.picture.specs.Pictures.{shapeAt, shapesOf, legend, layerPart, mark, rowPart, seen, scale, pictureOf, picture, pictureSaid}
+use Rattle.picture.specs.Frames.{groundOf, frameOf, longer, widthOf}
+use Rattle.picture.specs.Hatchings.{hatchingOf, beyond, fourth, points}
+use Rattle.picture.specs.Pictures.{outlined, shapeAt, shapesOf, legend, layerPart, mark, rowPart, seen, scale, pictureOf, picture, pictureSaid}
 
 -- a rectangle's path in front of other bytes, in literals: to its left bottom corner, to its right, to its top, to its left, and closed
 abbrev pub pathThen : Rect → List ℕ → List ℕ
@@ -33,9 +35,20 @@ pathThen r rest =
     ascii "M" ++ (numeral (r .left) ++ (ascii " " ++ (numeral (r .bottom) ++ (ascii "H" ++ (numeral (r .right)
     ++ (ascii "V" ++ (numeral (r .top) ++ (ascii "H" ++ (numeral (r .left) ++ (ascii "Z" ++ rest))))))))))
 
--- the title of a rectangle, likewise
-abbrev pub titleThen : (layer place : ℕ) → List ℕ → List ℕ
-titleThen j p rest = ascii "<g><title>layer " ++ (decimal j ++ (ascii ", place " ++ (decimal p ++ (ascii "</title>" ++ rest))))
+-- numbers in front of other bytes, each behind a space
+abbrev pub spacedThen : List ℤ → List ℕ → List ℕ
+spacedThen [] rest = rest
+spacedThen (z ∷ zs) rest = ascii " " ++ (numeral z ++ spacedThen zs rest)
+
+-- a line in front of other bytes: to its first point, and then from each to the next
+abbrev pub lineThen : List ℤ → List ℕ → List ℕ
+lineThen zs rest =
+    let z : ℕ → ℤ = λ i. getD zs i (pos 0) in
+    ascii "M" ++ (numeral (z 0) ++ (ascii " " ++ (numeral (z 1) ++ (ascii "L" ++ (numeral (z 2) ++ spacedThen (drop 3 zs) rest)))))
+
+-- the title of a rectangle
+abbrev pub titleOf : (layer place : ℕ) → List ℕ
+titleOf j p = ascii "<g><title>layer " ++ (decimal j ++ (ascii ", place " ++ (decimal p ++ ascii "</title>")))
 
 -- north is up, and the ground's left and top are at 0: a point x, y comes to x - left, top - y
 abbrev pub northUp : Frame → List ℕ
@@ -52,17 +65,25 @@ pub record PicturesHold : Type 0 where
       ++ (northUp f ++ (flatMap (rowPart (f .unit) whole) rows ++ fill tailText (scale f (length rows)))))
   -- a layer is its rectangles, with north up, and its line of the legend
   pub layer : (f : Frame) (j m : ℕ) (l : Layer) → layerPart f j m l
-      ≡ (ascii "<g class='l" ++ (decimal j ++ (ascii "'>" ++ northUp f))) ++ (shapesOf j m l ++ fill closeText (legend f j m (l .size)))
+      ≡ (ascii "<g class='l" ++ (decimal j ++ (ascii "'>" ++ northUp f))) ++ (shapesOf (f .unit) j m l ++ legend f j m (l .size))
   -- every picture is one element whose tags are balanced, each attribute with one value, and has only bytes that are printed, tabs and line ends; whatever the
   -- plan, no byte of it is taken for a tag
   pub formed : (f : Frame) (ms : List ℕ) (drawn whole : List Layer) (rows : List (List ℕ)) → scan start (pictureOf f ms drawn whole rows) ≡ end
   -- each rectangle of a layer once, in its order ..
-  pub shapes : (j m : ℕ) (l : Layer) → shapesOf j m l ≡ flatMap (λ p. shapeAt j m p (l .rect p)) (upto (λ q. q) 0 (l .size))
-  -- .. where it lies, ..
-  pub drawn : (j p : ℕ) (r : Rect) → shapeAt j 0 p r ≡ titleThen j p (ascii "<path d='" ++ pathThen r (ascii "'/></g>\n"))
+  pub shapes : (u j m : ℕ) (l : Layer) → shapesOf u j m l ≡ flatMap (λ p. shapeAt u j m p (l .rect p)) (upto (λ q. q) 0 (l .size))
+  -- .. with its layer and place, ..
+  pub drawn : (u j p : ℕ) (r : Rect) → shapeAt u j 0 p r ≡ titleOf j p ++ (outlined u j r ++ ascii "</g>\n")
   -- .. and dashed around it the grown one
-  pub grown : (j m p : ℕ) (r : Rect) → 0 < m
-      → shapeAt j m p r ≡ titleThen j p (ascii "<path d='" ++ pathThen r (ascii "'/><path class='m' d='" ++ pathThen (grownBy m r) (ascii "'/></g>\n")))
+  pub grown : (u j m p : ℕ) (r : Rect) → 0 < m
+      → shapeAt u j m p r ≡ titleOf j p ++ (outlined u j r ++ (ascii "<path class='m' d='" ++ pathThen (grownBy m r) (ascii "'/></g>\n")))
+  -- its outline where it lies, and in it the hatching of its layer, ..
+  pub outline : (u j : ℕ) (r : Rect) → outlined u j r
+      ≡ (ascii "<path d='" ++ pathThen r (ascii "'/>")) ++ (ascii "<path class='h' d='" ++ lineThen (points (beyond u r) r (hatchingOf j)) (ascii "'/>"))
+  -- .. whose points lie within it, ..
+  pub strokes : (a b : ℤ) (q : ℕ) → a ≤ℤ b → q ≤ 4 → (a ≤ℤ fourth 0 a b q) × (fourth 0 a b q ≤ℤ b)
+  pub spread : (u : ℕ) (r : Rect) → (r .left <ℤ r .right) ⊎ (r .bottom <ℤ r .top) → beyond u r ≡ 0
+  -- .. but a unit around it where it is a point
+  pub spot : (u : ℕ) (r : Rect) → r .left ≡ r .right → r .bottom ≡ r .top → beyond u r ≡ u
   -- each row with the report's line, and its common ground ..
   pub titled : (u : ℕ) (ls : List Layer) (row : List ℕ)
       → rowPart u ls row ≡ ascii "<g><title>" ++ (rowLine ls row ++ mark u (kindIn ls row) (commonIn ls row))
@@ -77,6 +98,8 @@ pub record PicturesHold : Type 0 where
       ≡ ascii "<svg xmlns='http://www.w3.org/2000/svg' viewBox='-" ++ (decimal (5 * u) ++ (ascii " -" ++ (decimal (5 * u)
       ++ (ascii " " ++ (decimal (f .width + 65 * u) ++ (ascii " " ++ (decimal (longer (f .height) (30 * u) + 10 * u)
       ++ fill (drop 58 headText) (drop 4 (seen f)))))))))
+  -- .. with no line wider than 32,767 millimetres; ..
+  pub pens : (n : ℕ) → (widthOf n ≤ n) × (widthOf n / 10 ≤ 32767)
   pub enough : (f : Frame) → f .height ≤ longer (f .height) (30 * f .unit)
   -- .. which are those of the ground; ..
   pub sides : (r : Rect) → r .left ≤ℤ r .right → r .bottom ≤ℤ r .top

@@ -2,6 +2,7 @@
 mod drawing;
 mod fill;
 mod frames;
+mod hatchings;
 mod layers;
 mod marks;
 mod numbers;

@@ -31,7 +31,7 @@ ghost use Rattle.picture.specs.Pictures.{mark, rowPart, rowParts};
 
 // The mark of a row's kind; the place behind it.
 fn put_mark(buf: &mut [u8], at: usize, unit: u64, kind: Kind, r: Rect) -> usize
-    requires { ⌜ (unit < 4294967296) × FitsAt (now buf) at (mark unit kind r) ⌝ }
+    requires { ⌜ (unit < 536870912) × FitsAt (now buf) at (mark unit kind r) ⌝ }
     ensures { λ v. ⌜ Put (now (buf .entry)) at (mark unit kind r) (now (buf .exit)) v ⌝ }
 {
     match kind {
@@ -63,7 +63,7 @@ fn put_ground(
     cells: &[i32],
     row: &[u32],
 ) -> usize
-    requires { ⌜ (k ≤ length (now sizes)) × Framed (take k (now sizes)) (now cells) × (unit < 4294967296) ⌝ }
+    requires { ⌜ (k ≤ length (now sizes)) × Framed (take k (now sizes)) (now cells) × (unit < 536870912) ⌝ }
     requires { ⌜ isRow (layersOf (take k (now sizes)) (now cells)) (now row) ≡ true ⌝ }
     requires { ⌜ FitsAt (now buf) at
         (mark unit (kindIn (layersOf (take k (now sizes)) (now cells)) (now row)) (commonIn (layersOf (take k (now sizes)) (now cells)) (now row))) ⌝ }
@@ -89,7 +89,7 @@ fn put_titled(
     cells: &[i32],
     row: &[u32],
 ) -> usize
-    requires { ⌜ (k ≤ length (now sizes)) × Framed (take k (now sizes)) (now cells) × (unit < 4294967296) ⌝ }
+    requires { ⌜ (k ≤ length (now sizes)) × Framed (take k (now sizes)) (now cells) × (unit < 536870912) ⌝ }
     requires { ⌜ isRow (layersOf (take k (now sizes)) (now cells)) (now row) ≡ true ⌝ }
     requires { ⌜ FitsAt (now buf) at (rowLine (layersOf (take k (now sizes)) (now cells)) (now row)
         ++ mark unit (kindIn (layersOf (take k (now sizes)) (now cells)) (now row)) (commonIn (layersOf (take k (now sizes)) (now cells)) (now row))) ⌝ }
@@ -111,7 +111,7 @@ fn put_row(
     cells: &[i32],
     row: &[u32],
 ) -> usize
-    requires { ⌜ (k ≤ length (now sizes)) × Framed (take k (now sizes)) (now cells) × (unit < 4294967296) ⌝ }
+    requires { ⌜ (k ≤ length (now sizes)) × Framed (take k (now sizes)) (now cells) × (unit < 536870912) ⌝ }
     requires { ⌜ isRow (layersOf (take k (now sizes)) (now cells)) (now row) ≡ true ⌝ }
     requires { ⌜ FitsAt (now buf) at (rowPart unit (layersOf (take k (now sizes)) (now cells)) (now row)) ⌝ }
     ensures { λ r. ⌜ Put (now (buf .entry)) at
@@ -133,7 +133,7 @@ pub fn put_rows(
     table: &[u32],
     n: usize,
 ) -> usize
-    requires { ⌜ TableRows (now sizes) k (now cells) (now table) n × (unit < 4294967296) ⌝ }
+    requires { ⌜ TableRows (now sizes) k (now cells) (now table) n × (unit < 536870912) ⌝ }
     requires { ⌜ FitsAt (now buf) from (rowParts unit (layersOf (take k (now sizes)) (now cells)) (rowsIn k n (now table))) ⌝ }
     ensures { λ r. ⌜ Put (now (buf .entry)) from
         (rowParts unit (layersOf (take k (now (sizes .entry))) (now (cells .entry))) (rowsIn k n (now (table .entry)))) (now (buf .exit)) r ⌝ }

@@ -2,14 +2,14 @@
 use geometry::Rect;
 use picture::Frame;
 ghost use mathlib.Core.Path.{_≡_};
-ghost use mathlib.Core.List.{[], _∷_, _++_};
+ghost use mathlib.Core.List.{[], _∷_};
 ghost use Prim.Native.Nat.{_<_, _≤_};
 ghost use lib.IntN.{pos, negℤ};
-ghost use Rattle.picture.specs.Pictures.{corners, moved, legend};
+ghost use Rattle.picture.specs.Pictures.{corners, moved, sample, legendPlace, legendSays};
 ghost use Rattle.picture.specs.inner.Parts.{Small};
 
 // A coordinate.
-fn wide(z: i32) -> i64
+pub fn wide(z: i32) -> i64
     ensures { λ r. ⌜ r ≡ z ⌝ }
 {
     z as i64
@@ -45,46 +45,50 @@ pub fn open_of(frame: Frame, layer: u64) -> [i64; 3]
     [whole(layer), minus(frame.left), minus(frame.top)]
 }
 
-// A rectangle's layer and place, its corners, and those of the grown one.
-pub fn shape_of(layer: u64, place: u64, r: Rect, g: Rect) -> [i64; 12]
+// A rectangle's layer and place.
+pub fn title_of(layer: u64, place: u64) -> [i64; 2]
     requires { ⌜ (layer ≤ 6) × (place < 9223372036854775808) ⌝ }
-    ensures { λ v. ⌜ v ≡ pos layer ∷ pos place ∷ (corners r ++ corners g) ⌝ }
+    ensures { λ v. ⌜ v ≡ pos layer ∷ pos place ∷ [] ⌝ }
 {
-    [
-        whole(layer),
-        whole(place),
-        wide(r.left),
-        wide(r.bottom),
-        wide(r.right),
-        wide(r.top),
-        wide(r.left),
-        wide(g.left),
-        wide(g.bottom),
-        wide(g.right),
-        wide(g.top),
-        wide(g.left),
-    ]
+    [whole(layer), whole(place)]
 }
 
-// What stands in a layer's line of the legend.
-pub fn legend_of(frame: Frame, layer: u64, margin: u32, size: u32) -> [i64; 8]
+// Where a layer's line of the legend stands.
+pub fn place_of(frame: Frame, layer: u64) -> [i64; 2]
     requires { ⌜ Small frame × (layer ≤ 6) ⌝ }
-    ensures { λ r. ⌜ r ≡ legend frame layer margin size ⌝ }
+    ensures { λ r. ⌜ r ≡ legendPlace frame layer ⌝ }
 {
     let u = frame.unit;
+    [whole(frame.width + 5 * u), whole(3 * u * layer + 2 * u)]
+}
+
+// What it says.
+pub fn says_of(frame: Frame, layer: u64, margin: u32, size: u32) -> [i64; 4]
+    requires { ⌜ Small frame × (layer ≤ 6) ⌝ }
+    ensures { λ r. ⌜ r ≡ legendSays frame layer margin size ⌝ }
+{
     [
-        whole(frame.width + 5 * u),
-        whole(3 * u * layer),
-        whole(4 * u),
-        whole(2 * u),
-        whole(u),
+        whole(frame.unit),
         whole(layer),
         whole(size as u64),
         whole(margin as u64),
     ]
 }
 
-// The corners of a row's common ground.
+// The sample of a layer in the legend.
+pub fn sample_of(unit: u64) -> Rect
+    requires { ⌜ unit < 536870912 ⌝ }
+    ensures { λ r. ⌜ r ≡ sample unit ⌝ }
+{
+    Rect {
+        left: 0,
+        bottom: 0,
+        right: (4 * unit) as i32,
+        top: (2 * unit) as i32,
+    }
+}
+
+// The corners of a rectangle.
 pub fn corners_of(r: Rect) -> [i64; 5]
     ensures { λ v. ⌜ v ≡ corners r ⌝ }
 {
@@ -99,7 +103,7 @@ pub fn corners_of(r: Rect) -> [i64; 5]
 
 // The corner that a cross is drawn at, and its unit.
 pub fn cross_of(r: Rect, unit: u64) -> [i64; 3]
-    requires { ⌜ unit < 4294967296 ⌝ }
+    requires { ⌜ unit < 536870912 ⌝ }
     ensures { λ v. ⌜ v ≡ r .left ∷ r .bottom ∷ pos unit ∷ [] ⌝ }
 {
     [wide(r.left), wide(r.bottom), whole(unit)]

@@ -1,31 +1,20 @@
 // The texts of a picture, with holes.
 ghost use mathlib.Core.Path.{_≡_};
-ghost use Rattle.picture.specs.Texts.{headText, openText, shapeText, grownText, closeText, rowsText, rowText, groundText, edgeText, pointText, tailText};
+ghost use Rattle.picture.specs.Texts.{headText, openText, titleText, outlineText, hatchText, endText, marginText};
+ghost use Rattle.picture.specs.Texts.{closeText, legendText, rowsText, rowText, groundText, edgeText, pointText, tailText};
 
-// The head: the part of the ground that is seen, how each layer is drawn (a colour and a hatching), and white ground.
-pub fn head_text() -> [u8; 1699]
+// The head: the part of the ground that is seen, how each layer is drawn (a colour), how its hatching and its margin are, and white ground.
+pub fn head_text() -> [u8; 705]
     ensures { λ r. ⌜ r ≡ headText ⌝ }
 {
     *b"<svg xmlns='http://www.w3.org/2000/svg' viewBox='-@ -@ @ @'>\n<style>\n\
-path{stroke-width:@.@px;stroke-linecap:round;stroke-linejoin:round}\n\
+path{stroke-width:@.@px;stroke-linecap:round;stroke-linejoin:round;fill-opacity:.1}\n\
 text{font-family:sans-serif;font-size:2px;fill:#000;stroke:none}\n\
-.l1{stroke:#0072b2;fill:url(#h1)}\n.l2{stroke:#d55e00;fill:url(#h2)}\n.l3{stroke:#009e73;fill:url(#h3)}\n\
-.l4{stroke:#cc79a7;fill:url(#h4)}\n.l5{stroke:#56b4e9;fill:url(#h5)}\n.l6{stroke:#e69f00;fill:url(#h6)}\n\
-.m{fill:none;stroke-dasharray:@.@ @.@}\n.g{stroke:#000;fill:#000;fill-opacity:.5}\n\
-.e{stroke:#000;stroke-width:@.@px;fill:none}\n.p{stroke:#000;stroke-width:.6px;fill:none}\n.k{stroke-width:.3px}\n</style>\n<defs>\n\
-<pattern id='h1' width='2' height='2' patternUnits='userSpaceOnUse' patternTransform='scale(@)'>\
-<rect y='.4' width='2' height='.3' fill='#0072b2'/></pattern>\n\
-<pattern id='h2' width='2' height='2' patternUnits='userSpaceOnUse' patternTransform='scale(@)'>\
-<rect x='.4' width='.3' height='2' fill='#d55e00'/></pattern>\n\
-<pattern id='h3' width='2' height='2' patternUnits='userSpaceOnUse' patternTransform='scale(@) rotate(45)'>\
-<rect width='.3' height='2' fill='#009e73'/></pattern>\n\
-<pattern id='h4' width='2' height='2' patternUnits='userSpaceOnUse' patternTransform='scale(@) rotate(-45)'>\
-<rect width='.3' height='2' fill='#cc79a7'/></pattern>\n\
-<pattern id='h5' width='2' height='2' patternUnits='userSpaceOnUse' patternTransform='scale(@)'>\
-<circle cx='1' cy='1' r='.4' fill='#56b4e9'/></pattern>\n\
-<pattern id='h6' width='2' height='2' patternUnits='userSpaceOnUse' patternTransform='scale(@)'>\
-<rect x='.8' y='1.2' width='1.1' height='.3' fill='#e69f00'/><rect x='1.2' y='.8' width='.3' height='1.1' fill='#e69f00'/></pattern>\n\
-</defs>\n<rect x='-@' y='-@' width='@' height='@' fill='#fff'/>\n"
+.l1{stroke:#0072b2;fill:#0072b2}\n.l2{stroke:#d55e00;fill:#d55e00}\n.l3{stroke:#009e73;fill:#009e73}\n\
+.l4{stroke:#cc79a7;fill:#cc79a7}\n.l5{stroke:#56b4e9;fill:#56b4e9}\n.l6{stroke:#e69f00;fill:#e69f00}\n\
+.h{stroke-width:@.@px;fill:none}\n.m{fill:none;stroke-dasharray:@.@ @.@}\n.g{stroke:#000;fill:#000;fill-opacity:.5}\n\
+.e{stroke:#000;stroke-width:@.@px;fill:none}\n.p{stroke:#000;stroke-width:.6px;fill:none}\n.k{stroke-width:.3px}\n</style>\n\
+<rect x='-@' y='-@' width='@' height='@' fill='#fff'/>\n"
 }
 
 // A layer's rectangles: its number, and how far the ground is moved; north is up, so y grows upward.
@@ -35,26 +24,53 @@ pub fn open_text() -> [u8; 57]
     *b"<g class='l@'><g transform='scale(1 -1) translate(@ @)'>\n"
 }
 
-// A rectangle: its layer and place, and its corners.
-pub fn shape_text() -> [u8; 62]
-    ensures { λ r. ⌜ r ≡ shapeText ⌝ }
+// A rectangle's title: its layer and place.
+pub fn title_text() -> [u8; 34]
+    ensures { λ r. ⌜ r ≡ titleText ⌝ }
 {
-    *b"<g><title>layer @, place @</title><path d='M@ @H@V@H@Z'/></g>\n"
+    *b"<g><title>layer @, place @</title>"
 }
 
-// A rectangle of a layer with a margin, and the grown one around it, dashed.
-pub fn grown_text() -> [u8; 95]
-    ensures { λ r. ⌜ r ≡ grownText ⌝ }
+// Its outline.
+pub fn outline_text() -> [u8; 23]
+    ensures { λ r. ⌜ r ≡ outlineText ⌝ }
 {
-    *b"<g><title>layer @, place @</title><path d='M@ @H@V@H@Z'/><path class='m' d='M@ @H@V@H@Z'/></g>\n"
+    *b"<path d='M@ @H@V@H@Z'/>"
 }
 
-// The end of a layer, and its line of the legend.
-pub fn close_text() -> [u8; 182]
+// Its hatching.
+pub fn hatch_text() -> [u8; 46]
+    ensures { λ r. ⌜ r ≡ hatchText ⌝ }
+{
+    *b"<path class='h' d='M@ @L@ @ @ @ @ @ @ @ @ @'/>"
+}
+
+// Its end.
+pub fn end_text() -> [u8; 5]
+    ensures { λ r. ⌜ r ≡ endText ⌝ }
+{
+    *b"</g>\n"
+}
+
+// Its end in a layer with a margin: the grown rectangle around it, dashed.
+pub fn margin_text() -> [u8; 38]
+    ensures { λ r. ⌜ r ≡ marginText ⌝ }
+{
+    *b"<path class='m' d='M@ @H@V@H@Z'/></g>\n"
+}
+
+// The end of a layer, and where its line of the legend stands.
+pub fn close_text() -> [u8; 61]
     ensures { λ r. ⌜ r ≡ closeText ⌝ }
 {
-    *b"</g><g transform='translate(@ @)'><path transform='scale(1 -1)' d='M0 0h@v-@H0Z'/>\
-<g transform='scale(@)'><text x='5' y='1.7'>layer @, rectangles: @, margin: @ mm</text></g></g></g>\n"
+    *b"</g><g transform='translate(@ @)'><g transform='scale(1 -1)'>"
+}
+
+// Behind the sample what the line says.
+pub fn legend_text() -> [u8; 104]
+    ensures { λ r. ⌜ r ≡ legendText ⌝ }
+{
+    *b"</g><g transform='scale(@)'><text x='5' y='-.3'>layer @, rectangles: @, margin: @ mm</text></g></g></g>\n"
 }
 
 // The rows, which stand on top.

@@ -3,7 +3,7 @@ use crate::numbers::whole;
 use picture::Frame;
 ghost use mathlib.Core.Path.{_≡_};
 ghost use Prim.Native.Nat.{_≤_};
-ghost use Rattle.picture.specs.Frames.{longer, barOf};
+ghost use Rattle.picture.specs.Frames.{longer, widthOf, barOf};
 ghost use Rattle.picture.specs.Pictures.{seen, scale};
 ghost use Rattle.picture.specs.inner.Parts.{Small};
 
@@ -17,41 +17,43 @@ fn longer_of(a: u64, b: u64) -> u64
     a
 }
 
-// The part of the ground that is seen, how thick lines are, and the unit of each hatching.
-pub fn seen_of(frame: Frame) -> [i64; 22]
+// The width of a line of n tenths of a millimetre.
+fn width_of(n: u64) -> u64
+    ensures { λ r. ⌜ (r ≡ widthOf n) × (r ≤ 327670) ⌝ }
+{
+    if n <= 327670 {
+        return n;
+    }
+    327670
+}
+
+// The part of the ground that is seen, and how wide lines are.
+pub fn seen_of(frame: Frame) -> [i64; 18]
     requires { ⌜ Small frame ⌝ }
     ensures { λ r. ⌜ r ≡ seen frame ⌝ }
 {
     let n = frame.unit;
-    let u = whole(n);
     let e = whole(5 * n);
     let w = whole(frame.width + 65 * n);
     let h = whole(longer_of(frame.height, 30 * n) + 10 * n);
-    let line = whole(3 * n / 10);
-    let line_rest = whole(3 * n % 10);
-    let dash = whole(8 * n / 10);
-    let dash_rest = whole(8 * n % 10);
-    let gap = whole(6 * n / 10);
-    let gap_rest = whole(6 * n % 10);
+    let line = width_of(3 * n);
+    let hatch = width_of(2 * n);
+    let thick = width_of(6 * n);
     [
         e,
         e,
         w,
         h,
-        line,
-        line_rest,
-        dash,
-        dash_rest,
-        gap,
-        gap_rest,
-        gap,
-        gap_rest,
-        u,
-        u,
-        u,
-        u,
-        u,
-        u,
+        whole(line / 10),
+        whole(line % 10),
+        whole(hatch / 10),
+        whole(hatch % 10),
+        whole(8 * n / 10),
+        whole(8 * n % 10),
+        whole(6 * n / 10),
+        whole(6 * n % 10),
+        whole(thick / 10),
+        whole(thick % 10),
         e,
         e,
         w,

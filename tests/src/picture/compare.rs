@@ -18,11 +18,13 @@ const DRAWN: u64 = 300;
 const SEED: u64 = 0xA24B_AED4_963E_E407;
 
 /// What is shown of a plan, where it is seen, x to the right and y downward from the corner of the ground: of each rectangle layer, place and its four sides, and
-/// those of the grown one where its layer has a margin; of each row its line, its kind and its ground, of which a cross has the point alone.
+/// those of the grown one where its layer has a margin; of each row its line, its kind and its ground, of which a cross has the point alone; and how much
+/// some viewers would not draw: rectangles all of whose lines have length 0, and lines of 32,768 or more.
 #[derive(Debug, PartialEq)]
 pub struct Shown {
     rects: Vec<(usize, usize, Vec<i64>)>,
     rows: Vec<(String, u8, Vec<i64>)>,
+    unseen: usize,
 }
 
 /// What a picture of a plan has to show: the left and the top of all grown rectangles are at 0, and north is up.
@@ -34,7 +36,7 @@ pub fn wanted(plan: &Plan) -> Shown {
         let [left, bottom, right, top] = [r.left, r.bottom, r.right, r.top].map(i64::from);
         vec![left - west, north - bottom, right - west, north - top]
     };
-    let mut shown = Shown { rects: Vec::new(), rows: Vec::new() };
+    let mut shown = Shown { rects: Vec::new(), rows: Vec::new(), unseen: 0 };
     for (at, rects) in ungrown(&plan.shape, &plan.cells).iter().enumerate() {
         let margin = plan.shape.margins[at];
         let around = |r: Rect| if margin > 0 { seen(grow(r, margin)) } else { Vec::new() };
@@ -62,10 +64,26 @@ fn paths(text: &str) -> Vec<i64> {
     closed.flat_map(|path| numbers(path).into_iter().take(4).collect::<Vec<i64>>()).collect()
 }
 
+/// Whether the outline and the hatching of a rectangle have only one point.
+fn no_length(text: &str) -> bool {
+    let hatching = text.split("class='h' d='").nth(1).and_then(|behind| behind.split('\'').next());
+    let points = numbers(hatching.unwrap_or(""));
+    let outline: Vec<i64> = paths(text).into_iter().take(4).collect();
+    let all: Vec<&[i64]> = outline.chunks(2).chain(points.chunks(2)).collect();
+    all.windows(2).all(|two| two[0] == two[1])
+}
+
+/// How many widths of lines are 32,768 or more.
+fn too_wide(text: &str) -> usize {
+    let widths = text.split("stroke-width:").skip(1).filter_map(|behind| behind.split("px").next());
+    widths.filter(|width| width.parse::<f64>().map_or(true, |width| width >= 32_768.0)).count()
+}
+
 /// What a picture shows, read from its bytes: its ground is moved and turned over, and each shape has a title.
 pub fn read_back(picture: &[u8]) -> Option<Shown> {
     let text = std::str::from_utf8(picture).ok()?;
-    let mut shown = Shown { rects: Vec::new(), rows: Vec::new() };
+    let mut shown = Shown { rects: Vec::new(), rows: Vec::new(), unseen: 0 };
+    shown.unseen += too_wide(text);
     for group in text.split("<g transform='scale(1 -1) translate(").skip(1) {
         let (moved, ground) = group.split_once(")'>\n")?;
         let moved = numbers(moved);
@@ -79,6 +97,7 @@ pub fn read_back(picture: &[u8]) -> Option<Shown> {
             match (title.strip_prefix("layer "), drawn.strip_prefix("<path class='")) {
                 (Some(named), _) => {
                     let (layer, place) = named.split_once(", place ")?;
+                    shown.unseen += usize::from(no_length(drawn));
                     shown.rects.push((layer.parse().ok()?, place.parse().ok()?, seen(paths(drawn))));
                 }
                 (None, Some(mark)) => {

@@ -26,9 +26,10 @@ pub struct Frame {
     pub unit: i64,
 }
 
-/// How a picture is drawn: which layers are shown, how wide a unit is by width and height, the scale bar of a unit, where the ground is put, a rectangle's path,
-/// the grown one around it, the number of a place, which hatching a layer has, the ground of a row by the layers as they are drawn and grown, the mark of a kind,
-/// the title of a row, and what stands in a layer's line of the legend.
+/// How a picture is drawn: which layers are shown, how wide a unit is by width and height, the scale bar of a unit, where the ground is put, a rectangle's
+/// path, the grown one around it, the number of a place, which hatching a layer has and how far it goes beyond a rectangle, how wide a line of so many tenths
+/// of a millimetre is, the ground of a row by the layers as they are drawn and grown, the mark of a kind, the title of a row, and what stands in a layer's
+/// line of the legend.
 #[derive(Clone, Copy)]
 pub struct Pen {
     pub shown: fn(&Plan) -> Layers,
@@ -39,6 +40,8 @@ pub struct Pen {
     pub margin: fn(Rect, u32) -> Option<Rect>,
     pub place: fn(usize) -> usize,
     pub hatching: fn(usize) -> usize,
+    pub beyond: fn(Rect, i64) -> i64,
+    pub line: fn(i64) -> i64,
     pub common: fn(&Row, &Layers) -> Rect,
     pub mark: fn(u8, Rect, i64, fn(Rect) -> String) -> String,
     pub title: fn(&Row, usize, u8) -> String,
@@ -55,6 +58,8 @@ pub const PEN: Pen = Pen {
     margin: |rect, margin| (margin > 0).then(|| grow(rect, margin)),
     place: |place| place,
     hatching: |layer| layer,
+    beyond: |r, unit| if r.left == r.right && r.bottom == r.top { unit } else { 0 },
+    line: |tenths| tenths.min(327_670),
     common: |row, _| row.common,
     mark: mark_of,
     title: row_line,
@@ -89,15 +94,15 @@ pub fn mark_of(kind: u8, r: Rect, unit: i64, path: fn(Rect) -> String) -> String
     }
 }
 
-/// The colours of the layers, and what their hatchings are made of: how a cell of 2 by 2 units is turned, and what stands in it.
+/// The colours of the layers, and their hatchings: the points of a line, each by its fourths of the width and of the height.
 const COLOURS: [&str; 6] = ["#0072b2", "#d55e00", "#009e73", "#cc79a7", "#56b4e9", "#e69f00"];
-const HATCHINGS: [(&str, &[&str]); 6] = [
-    ("", &["rect y='.4' width='2' height='.3'"]),
-    ("", &["rect x='.4' width='.3' height='2'"]),
-    (" rotate(45)", &["rect width='.3' height='2'"]),
-    (" rotate(-45)", &["rect width='.3' height='2'"]),
-    ("", &["circle cx='1' cy='1' r='.4'"]),
-    ("", &["rect x='.8' y='1.2' width='1.1' height='.3'", "rect x='1.2' y='.8' width='.3' height='1.1'"]),
+const HATCHINGS: [[(i64, i64); 6]; 6] = [
+    [(0, 1), (4, 1), (4, 2), (0, 2), (0, 3), (4, 3)],
+    [(1, 0), (1, 4), (2, 4), (2, 0), (3, 0), (3, 4)],
+    [(0, 2), (2, 4), (4, 4), (0, 0), (2, 0), (4, 2)],
+    [(0, 2), (2, 0), (4, 0), (0, 4), (2, 4), (4, 2)],
+    [(0, 0), (4, 4), (4, 0), (0, 4), (0, 2), (0, 0)],
+    [(2, 0), (2, 4), (4, 4), (4, 2), (0, 2), (0, 0)],
 ];
 
 /// What is shown of layers; where they have no rectangle, the point 0, 0.
@@ -110,9 +115,9 @@ fn frame_of(layers: &Layers, unit: fn(i64, i64) -> i64) -> Frame {
     Frame { left, top, width, height, unit: unit(width, height) }
 }
 
-/// A length of so many tenths of a unit, with one decimal.
-fn tenths(count: i64, unit: i64) -> String {
-    format!("{}.{}", count * unit / 10, count * unit % 10)
+/// A length of so many tenths, with one decimal.
+fn decimal(tenths: i64) -> String {
+    format!("{}.{}", tenths / 10, tenths % 10)
 }
 
 impl Pen {
@@ -122,28 +127,33 @@ impl Pen {
         let (width, height) = (f.width + 65 * u, f.height.max(30 * u) + 10 * u);
         let mut out = format!(
             "<svg xmlns='http://www.w3.org/2000/svg' viewBox='-{edge} -{edge} {width} {height}'>\n<style>\n\
-             path{{stroke-width:{}px;stroke-linecap:round;stroke-linejoin:round}}\n\
+             path{{stroke-width:{}px;stroke-linecap:round;stroke-linejoin:round;fill-opacity:.1}}\n\
              text{{font-family:sans-serif;font-size:2px;fill:#000;stroke:none}}\n",
-            tenths(3, u)
+            decimal((self.line)(3 * u))
         );
         for (at, colour) in COLOURS.iter().enumerate() {
-            out += &format!(".l{}{{stroke:{colour};fill:url(#h{})}}\n", at + 1, (self.hatching)(at) + 1);
+            out += &format!(".l{}{{stroke:{colour};fill:{colour}}}\n", at + 1);
         }
-        out += &format!(".m{{fill:none;stroke-dasharray:{} {}}}\n", tenths(8, u), tenths(6, u));
+        out += &format!(".h{{stroke-width:{}px;fill:none}}\n", decimal((self.line)(2 * u)));
+        out += &format!(".m{{fill:none;stroke-dasharray:{} {}}}\n", decimal(8 * u), decimal(6 * u));
         out += ".g{stroke:#000;fill:#000;fill-opacity:.5}\n";
-        out += &format!(".e{{stroke:#000;stroke-width:{}px;fill:none}}\n", tenths(6, u));
-        out += ".p{stroke:#000;stroke-width:.6px;fill:none}\n.k{stroke-width:.3px}\n</style>\n<defs>\n";
-        for (at, (turned, shapes)) in HATCHINGS.iter().enumerate() {
-            let shapes: String =
-                shapes.iter().map(|shape| format!("<{shape} fill='{}'/>", COLOURS[at])).collect();
-            let units = "width='2' height='2' patternUnits='userSpaceOnUse'";
-            let number = at + 1;
-            out += &format!(
-                "<pattern id='h{number}' {units} patternTransform='scale({u}){turned}'>{shapes}</pattern>\n"
-            );
-        }
+        out += &format!(".e{{stroke:#000;stroke-width:{}px;fill:none}}\n", decimal((self.line)(6 * u)));
+        out += ".p{stroke:#000;stroke-width:.6px;fill:none}\n.k{stroke-width:.3px}\n</style>\n";
         let white = format!("x='-{edge}' y='-{edge}' width='{width}' height='{height}'");
-        out + &format!("</defs>\n<rect {white} fill='#fff'/>\n")
+        out + &format!("<rect {white} fill='#fff'/>\n")
+    }
+
+    /// A rectangle of a layer: its outline, and the layer's hatching in it.
+    fn outlined(&self, layer: usize, r: Rect, unit: i64) -> String {
+        let beyond = (self.beyond)(r, unit);
+        let along = |from: i32, to: i32, fourths: i64| {
+            let (from, to) = (i64::from(from) - beyond, i64::from(to) + beyond);
+            from + (to - from) * fourths / 4
+        };
+        let points = HATCHINGS[(self.hatching)(layer)]
+            .map(|(x, y)| format!("{} {}", along(r.left, r.right, x), along(r.bottom, r.top, y)));
+        let line = format!("M{}L{}", points[0], points[1..].join(" "));
+        format!("<path d='{}'/><path class='h' d='{line}'/>", (self.path)(r))
     }
 
     /// A layer, numbered from 0 here and from 1 in the picture: its rectangles in their order, and its line of the legend.
@@ -152,16 +162,17 @@ impl Pen {
         let mut out = format!("<g class='l{number}'><g transform='{}'>\n", (self.ground)(f));
         for (place, &rect) in rects.iter().enumerate() {
             let title = format!("layer {number}, place {}", (self.place)(place));
-            out += &format!("<g><title>{title}</title><path d='{}'/>", (self.path)(rect));
+            out += &format!("<g><title>{title}</title>{}", self.outlined(at, rect, u));
             if let Some(grown) = (self.margin)(rect, margin) {
                 out += &format!("<path class='m' d='{}'/>", (self.path)(grown));
             }
             out += "</g>\n";
         }
-        let at = format!("translate({} {})", f.width + 5 * u, 3 * u * number as i64);
-        let sample = format!("<path transform='scale(1 -1)' d='M0 0h{}v-{}H0Z'/>", 4 * u, 2 * u);
+        let sample = Rect { left: 0, bottom: 0, right: 4 * u as i32, top: 2 * u as i32 };
+        let sample = format!("<g transform='scale(1 -1)'>{}</g>", self.outlined(at, sample, u));
+        let at = format!("translate({} {})", f.width + 5 * u, 3 * u * number as i64 + 2 * u);
         let says = (self.legend)(number, rects.len(), margin);
-        let says = format!("<g transform='scale({u})'><text x='5' y='1.7'>{says}</text></g>");
+        let says = format!("<g transform='scale({u})'><text x='5' y='-.3'>{says}</text></g>");
         out + &format!("</g><g transform='{at}'>{sample}{says}</g></g>\n")
     }
 

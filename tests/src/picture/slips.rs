@@ -5,7 +5,7 @@ use crate::plan::{grow, intersection, ungrown, Layers, Rect};
 use crate::row::Row;
 
 /// Every wrong picture with its description.
-pub const SLIPS: [(Pen, &str); 22] = [
+pub const SLIPS: [(Pen, &str); 24] = [
     (
         Pen { ground: |f| format!("translate({} {})", -f.left, -f.top), ..PEN },
         "y not turned over: south is up",
@@ -37,6 +37,8 @@ pub const SLIPS: [(Pen, &str); 22] = [
     (Pen { place: |place| place + 1, ..PEN }, "places from 1 in titles"),
     (Pen { hatching: |layer| [1, 0, 2, 3, 4, 5][layer], ..PEN }, "the hatchings of layers 1 and 2 exchanged"),
     (Pen { hatching: |layer| layer % 3, ..PEN }, "three hatchings for six layers"),
+    (Pen { beyond: |_, _| 0, ..PEN }, "nothing drawn around a rectangle that is a point"),
+    (Pen { line: |tenths| tenths, ..PEN }, "lines wider than some viewers draw"),
     (Pen { common: |row, _| grow(row.common, 1), ..PEN }, "a row's ground a millimetre off"),
     (Pen { common: as_drawn, ..PEN }, "a row's ground of the rectangles as they are drawn"),
     (

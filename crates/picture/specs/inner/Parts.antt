@@ -17,11 +17,11 @@ use Rattle.picture.specs.Templates.{fill}
 use Rattle.picture.specs.Texts.{rowsText, tailText}
 use Rattle.picture.specs.Pictures.{shapesOf, moved, layerPart, layerParts, rowParts, scale}
 
--- the numbers of a frame are those of coordinates of 32 bits
+-- the numbers of a frame are those of coordinates of 32 bits, and four units are one
 pub record Small (f : Frame) : Type 0 where
   pub width : f .width < 4294967296
   pub height : f .height < 4294967296
-  pub unit : f .unit < 4294967296
+  pub unit : f .unit < 536870912
 
 -- a rectangle that can be drawn: in range, with its layer and its margin
 pub record Drawable (layer margin : ℕ) (r : Rect) : Type 0 where
@@ -46,8 +46,8 @@ pub record LayersDrawable (sizes margins : List ℕ) (k : ℕ) (cells : List ℤ
   pub short : sum (take k sizes) ≤ 3072
 
 -- the rectangles of a layer with these cells
-abbrev pub shapesIn : (layer margin : ℕ) (cells : List ℤ) (size : ℕ) → List ℕ
-shapesIn j m cells n = shapesOf j m (record { size = n; rect = rectAt cells })
+abbrev pub shapesIn : (unit layer margin : ℕ) (cells : List ℤ) (size : ℕ) → List ℕ
+shapesIn u j m cells n = shapesOf u j m (record { size = n; rect = rectAt cells })
 
 -- .. and the layer
 abbrev pub layerIn : Frame → (layer margin : ℕ) (cells : List ℤ) (size : ℕ) → List ℕ

@@ -7,8 +7,8 @@ use Rattle.picture_code.proofs.layers.put_close.Tie as tie
 close-text-requires : tie.Need-close-text-requires
 close-text-requires c κs = search needs
 
-legend-of-requires : tie.Need-legend-of-requires
-legend-of-requires c κs = search needs
+place-of-requires : tie.Need-place-of-requires
+place-of-requires c κs = search needs
 
 slice-aggregate-put-filled : tie.Need-slice-aggregate-put-filled
 slice-aggregate-put-filled c = search needs
@@ -30,7 +30,7 @@ put-close-spec =
     tie.close
     (tie.spec
     close-text-requires
-    legend-of-requires
+    place-of-requires
     slice-aggregate-put-filled
     slice-aggregate-put-filled-2
     put-filled-requires

@@ -7,19 +7,19 @@ use Rattle.picture_code.proofs.shapes.put_shapes.Statement.{statement}
 use Rattle.picture_code.proofs.shapes.put_shapes.Tie as tie
 
 abbrev Inv-loop : tie.InvT-loop
-Inv-loop buf₀ from layer margin cells size at₀ p₀ buf at p = Undrawn layer margin cells size buf₀ from buf at p
+Inv-loop buf₀ from unit layer margin cells size at₀ p₀ buf at p = Undrawn unit layer margin cells size buf₀ from buf at p
 
 abbrev μ-loop : tie.MeasureT-loop
-μ-loop buf₀ from layer margin cells size at₀ p₀ buf at p = size - p
+μ-loop buf₀ from unit layer margin cells size at₀ p₀ buf at p = size - p
 
 loop-holds : tie.Need-loop-holds Inv-loop μ-loop
-loop-holds c = none-drawn _ _ _ _ _ _
+loop-holds c = none-drawn _ _ _ _ _ _ _
 
 rect-at-requires : tie.Need-rect-at-requires Inv-loop μ-loop
 rect-at-requires c κs =
     let s : tie.Start Inv-loop μ-loop = search needs in
     let l : tie.In-loop Inv-loop μ-loop = search needs in
-    omega (arith, s .pre .0 .reach .whole, l .loop-test .taken)
+    omega (arith, s .pre .0 .1 .reach .whole, l .loop-test .taken)
 
 put-shape-requires : tie.Need-put-shape-requires Inv-loop μ-loop
 put-shape-requires c κs =
@@ -29,8 +29,8 @@ put-shape-requires c κs =
     let i = l .before .loop in
     let t = l .loop-test .taken in
     let e = r .rect-at .ensures in (
-      (next-drawable _ _ _ _ _ _ (i .buf) (i .at) (i .p) (i .inv) t _ e (s .pre .0), omega (arith, s .pre .0 .short, t)),
-      next-shape-room _ _ _ _ _ _ (i .buf) (i .at) (i .p) (i .inv) t _ e (s .pre .1),
+      (s .pre .0 .0, next-drawable _ _ _ _ _ _ _ (i .buf) (i .at) (i .p) (i .inv) t _ e (s .pre .0 .1), omega (arith, s .pre .0 .1 .short, t)),
+      next-shape-room _ _ _ _ _ _ _ (i .buf) (i .at) (i .p) (i .inv) t _ e (s .pre .1),
     )
 
 add-p : tie.Need-add-p Inv-loop μ-loop
