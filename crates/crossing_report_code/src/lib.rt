@@ -1,20 +1,19 @@
-// The crossing report (02: pipes against ducts): a whole run, whose rows are then counted by their class. What it answers is defined in the crate `tally`.
+// The crossing report (02: pipes against ducts): a whole run, whose rows are then counted by class. What it answers: the crate `crossing_report`.
 use crossing_report::CrossingReport;
 use crossings_code::crossing_cause;
 use crossings_code::row_class;
 use paging::Run;
-use plan::MOST_CELLS;
 use plan::Shape;
-use plan_code::grown_cells;
 use rows_code::row_at;
 use runner::run_all;
 ghost use mathlib.Core.Path.{_≡_};
 ghost use Prim.Native.Nat.{_≤_};
 ghost use lib.ListN.{length, take};
-ghost use Rattle.plan.specs.Plan.{layersOf, grown, layers, Sound};
+ghost use Rattle.plan.specs.Plan.{layersOf};
 ghost use Rattle.crossings.specs.ClassCall.{classCounts};
 ghost use Rattle.rows.specs.Tables.{rowsIn};
 ghost use Rattle.rows.specs.inner.TableRows.{TableRows};
+ghost use Rattle.rows_code.specs.Reading.{widened, Readable};
 ghost use Rattle.crossing_report.specs.CrossingCall.{crossingRunCause, crossingCall, crossingTable};
 ghost use Rattle.paging.specs.Calls.{runValues, WorkAfter};
 ghost use Rattle.crossing_report_code.specs.Parts.{RanInto, refusedReport, reportOn};
@@ -60,7 +59,14 @@ fn report_on(run: Run, shape: Shape, cells: &[i32], table: &[u32]) -> CrossingRe
     match run {
         Run::Refused(cause) => refused_report(cause),
         Run::Done(rows, probes, area, ground) => {
-            let counts = count_grown(shape, cells, table, rows);
+            let counts = count_classes(
+                &shape.sizes,
+                &shape.margins,
+                shape.k as usize,
+                cells,
+                table,
+                rows,
+            );
             CrossingReport {
                 run: Run::Done(rows, probes, area, ground),
                 counts,
@@ -69,28 +75,25 @@ fn report_on(run: Run, shape: Shape, cells: &[i32], table: &[u32]) -> CrossingRe
     }
 }
 
-// How many of the first n rows of a sound plan's table fall in each class.
-fn count_grown(shape: Shape, cells: &[i32], table: &[u32], n: u32) -> [u32; 17]
-    requires { ⌜ Sound shape (now cells) × TableRows (shape .sizes) (shape .k) (grown shape (now cells)) (now table) n ⌝ }
-    requires { ⌜ 3 ≤ shape .k ⌝ }
-    ensures { λ r. ⌜ r ≡ classCounts (layers shape (now (cells .entry))) (rowsIn (shape .k) n (now (table .entry))) ⌝ }
-{
-    let mut run = [0i32; MOST_CELLS];
-    let grown = grown_cells(shape, cells, &mut run);
-    count_classes(&shape.sizes, shape.k as usize, grown, table, n)
-}
-
-// How many of the first n rows of a table fall in each class.
-fn count_classes(sizes: &[u32], k: usize, cells: &[i32], table: &[u32], n: u32) -> [u32; 17]
-    requires { ⌜ TableRows (now sizes) k (now cells) (now table) n ⌝ }
-    requires { ⌜ 3 ≤ k ⌝ }
-    ensures { λ r. ⌜ r ≡ classCounts (layersOf (take k (now (sizes .entry))) (now (cells .entry))) (rowsIn k n (now (table .entry))) ⌝ }
+// How many of the first n rows of a sound plan's table fall in each class; only the rectangles of a row are grown, as it is counted.
+fn count_classes<'a>(
+    sizes: &'a [u32],
+    margins: &'a [u32],
+    k: usize,
+    cells: &[i32],
+    table: &[u32],
+    n: u32,
+) -> [u32; 17]
+    requires { ⌜ TableRows (now sizes) k (widened (take k (now sizes)) (now margins) (now cells)) (now table) n ⌝ }
+    requires { ⌜ Readable (take k (now sizes)) (now margins) (now cells) × (3 ≤ k) ⌝ }
+    ensures { λ r. let ns = take k (now (sizes .entry)) in
+        ⌜ r ≡ classCounts (layersOf ns (widened ns (now (margins .entry)) (now (cells .entry)))) (rowsIn k n (now (table .entry))) ⌝ }
 {
     let mut counts = [0u32; 17];
     let mut start: usize = 0;
     let mut i: u32 = 0;
     while i < n {
-        let class = row_class(sizes, k, cells, row_at(table, start, k)) as usize;
+        let class = row_class(sizes, margins, k, cells, row_at(table, start, k)) as usize;
         counts[class] += 1;
         start += k;
         i += 1;

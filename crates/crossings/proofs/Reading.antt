@@ -5,24 +5,26 @@ use mathlib.Core.Bool.{Bool, true, false, _&&_}
 use Prim.Native.Nat.{ℕ, zero, suc, _+_, _-_, _*_, _≤_, _<_}
 use native.Mathlib.Omega.{arith}
 use lib.IntN.{ℤ}
-use lib.ListN.{length, getD, take}
+use lib.ListN.{length, getD, take, drop, take-append-drop}
 use lib.Seq.{length-take-le, getD-take}
 use mir.Syntax.{w32}
 use mir.Val.{SFits, toZ, ofZ}
 use mir.Facts.{toZ-ofZ}
 use Rattle.lists.specs.Lists.{sum}
+use Rattle.lists.proofs.Numbers.{sum-++}
 use Rattle.lists.proofs.Tests.{both}
 use Rattle.geometry.specs.declared.Rect.{Rect}
 use Rattle.geometry.specs.Rectangles.{nonempty}
 use Rattle.plan.specs.Plan.{Layer, rectAt, layersOf}
 use Rattle.plan.specs.Frames.{Framed}
 use Rattle.plan.specs.Spots.{layerAt, rectOf}
-use Rattle.plan.proofs.Spots.{number-small, spot-number, rect-number, size-of, layers-long}
+use Rattle.plan.proofs.Spots.{number-small, spot-number, rect-number, size-of, layers-long, layer-at}
 use Rattle.join.specs.Join.{rects, commonOf, sameZ, Within, no-layer, _below_}
 use Rattle.join.specs.Table.{sizesIn}
 use Rattle.join.proofs.Table.{within-long}
 use Rattle.rows.specs.RowCall.{fits, isRow}
-use Rattle.rows.proofs.RowCall.{fits-at, fits-within, is-row, sizes-of}
+use Rattle.rows.specs.inner.Layers.{Reached}
+use Rattle.rows.proofs.RowCall.{fits-within, is-row, sizes-of}
 use Rattle.crossings.specs.Crossings.{covers}
 use Rattle.crossings.specs.ClassCall.{lies, layerLies, segmented}
 use Rattle.crossings.specs.inner.Ends.{allLie}
@@ -41,6 +43,11 @@ start-small [] zero = omega arith
 start-small [] (suc i) = omega arith
 start-small (n ∷ ns) zero = omega arith
 start-small (n ∷ ns) (suc i) = omega (arith, start-small ns i)
+
+-- ... and so where its rectangles begin
+pub reached-at : (ns : List ℕ) (j start : ℕ) → j ≤ length ns → start ≡ sum (take j ns) → Reached ns start j
+reached-at ns j start h e =
+    record { within = h; sums = omega (arith, e, ap sum (take-append-drop j ns), sum-++ (take j ns) (drop j ns)) }
 
 -- ---- one layer
 rect-at-number : (ns : List ℕ) (cells : List ℤ) (j p : ℕ) → p < getD ns j 0 → layerAt (layersOf ns cells) j .rect p ≡ rectAt cells (sum (take j ns) + p)
@@ -89,19 +96,17 @@ module _ (ns : List ℕ) (cells : List ℤ) (row : List ℕ) (is : isRow (layers
       let ls = layersOf ns cells in
       sym (ap (λ (ms : List ℕ). fits ms row) (sizes-of ns cells)) ∙ both (fits (sizesIn ls) row) (nonempty (commonOf (rects ls row))) is .0
 
-  -- its rectangle in layer j, and that it lies in the cells
-  pub row-rect : (j : ℕ) → j < length ns → rectAt cells (sum (take j ns) + getD row j 0) ≡ getD (rects (layersOf ns cells) row) j (commonOf [])
-  row-rect j h =
-      let p = fits-at ns row j row-fits h in
-      sym (rect-at-number ns cells j (getD row j 0) p) ∙ sym (at (fits-within (layersOf ns cells) row (ap (λ (ms : List ℕ). fits ms row) (sizes-of ns cells) ∙ row-fits)) j (omega (arith, layers-long ns cells)))
+  -- its rectangle in layer j, behind `start` rectangles
+  pub row-rect : (j start : ℕ) → j < length ns → start ≡ sum (take j ns) → rectAt (take (4 * getD ns j 0) (drop (4 * start) cells)) (getD row j 0) ≡ getD (rects (layersOf ns cells) row) j (commonOf [])
+  row-rect j start h e =
+      ap (λ (n : ℕ). rectAt (take (4 * getD ns j 0) (drop (4 * n) cells)) (getD row j 0)) e
+      ∙ sym (at (fits-within (layersOf ns cells) row (ap (λ (ms : List ℕ). fits ms row) (sizes-of ns cells) ∙ row-fits)) j (omega (arith, layers-long ns cells))
+      ∙ ap (λ (l : Layer). l .rect (getD row j 0)) (layer-at ns cells j h))
     where
       at : {ls : List Layer} {ps : List ℕ} → Within ls ps → (i : ℕ) → i < length ls → getD (rects ls ps) i (commonOf []) ≡ layerAt ls i .rect (getD ps i 0)
       at no-layer i q = absurd (omega arith)
       at (_below_ k ks) zero q = refl
       at (_below_ k ks) (suc i) q = at ks i (omega arith)
-
-  pub rect-inside : (j : ℕ) → Framed ns cells → j < length ns → 4 * (sum (take j ns) + getD row j 0) + 4 ≤ length cells
-  rect-inside j f h = omega (arith, f .whole, start-small ns j, fits-at ns row j row-fits h)
 
   -- its rectangles share a point
   pub row-shares : 3 ≤ length ns → Shares (rects (layersOf ns cells) row)

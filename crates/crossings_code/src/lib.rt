@@ -1,15 +1,13 @@
 // The class of a row whose last two rectangles are segments (02, Q-2), and the checks 15 and 16. What they are is defined in the crate `crossings`.
 use crossings::ClassAnswer;
 use geometry::Rect;
-use plan::MOST_CELLS;
 use plan::Shape;
-use plan_code::grown_cells;
-use plan_code::is_drawn;
 use plan_code::plan_cause;
 use plan_code::rect_at;
 use plan_code::sum_of;
 use rows::Sharing;
-use rows_code::row_ground;
+use rows_code::ground_in;
+use rows_code::grown_in;
 ghost use mathlib.Core.Path.{_≡_};
 ghost use mathlib.Core.List.{[]};
 ghost use mathlib.Core.Bool.{true};
@@ -19,6 +17,7 @@ ghost use Rattle.plan.specs.Plan.{rectAt, layersOf};
 ghost use Rattle.plan.specs.Frames.{Framed};
 ghost use Rattle.join.specs.Join.{rects, commonOf, sameZ};
 ghost use Rattle.rows.specs.RowCall.{isRow};
+ghost use Rattle.rows_code.specs.Reading.{widened, Readable};
 ghost use Rattle.crossings.specs.Crossings.{covers, classIn};
 ghost use Rattle.crossings.specs.ClassCall.{lies, segmented, unwidened, crossingCause, classCall, classValues};
 ghost use Rattle.crossings.specs.inner.Ends.{endIn, allLie, classTold};
@@ -32,22 +31,30 @@ pub fn class_of(shape: Shape, cells: &[i32], places: &[u32]) -> ClassAnswer
     if cause != 0 {
         return ClassAnswer::Refused(cause);
     }
-    if is_drawn(shape) {
-        return class_told(&shape.sizes, shape.k as usize, cells, places);
-    }
-    let mut run = [0i32; MOST_CELLS];
-    let grown = grown_cells(shape, cells, &mut run);
-    class_told(&shape.sizes, shape.k as usize, grown, places)
+    class_told(
+        &shape.sizes,
+        &shape.margins,
+        shape.k as usize,
+        cells,
+        places,
+    )
 }
 
-// The class of the row that the cells name among the first k layers of a sound plan.
-fn class_told(sizes: &[u32], k: usize, cells: &[i32], places: &[u32]) -> ClassAnswer
-    requires { ⌜ (k ≤ length (now sizes)) × Framed (take k (now sizes)) (now cells) × (3 ≤ k) ⌝ }
-    ensures { λ r. ⌜ r ≡ classTold (layersOf (take k (now (sizes .entry))) (now (cells .entry))) (now (places .entry)) ⌝ }
+// The class of the row that the cells name among the first k layers of a sound plan; only the rectangles of the row are grown.
+fn class_told<'a>(
+    sizes: &'a [u32],
+    margins: &'a [u32],
+    k: usize,
+    cells: &[i32],
+    places: &[u32],
+) -> ClassAnswer
+    requires { ⌜ (k ≤ length (now sizes)) × Readable (take k (now sizes)) (now margins) (now cells) × (3 ≤ k) ⌝ }
+    ensures { λ r. let ns = take k (now (sizes .entry)) in
+        ⌜ r ≡ classTold (layersOf ns (widened ns (now (margins .entry)) (now (cells .entry)))) (now (places .entry)) ⌝ }
 {
-    match row_ground(sizes, k, cells, places) {
+    match ground_in(&sizes[..k], margins, cells, places) {
         Sharing::Nothing => ClassAnswer::NoRow,
-        Sharing::Shared(_) => ClassAnswer::Class(row_class(sizes, k, cells, places)),
+        Sharing::Shared(_) => ClassAnswer::Class(row_class(sizes, margins, k, cells, places)),
     }
 }
 
@@ -128,19 +135,26 @@ fn is_same(a: i32, b: i32) -> bool
     (a <= b) & (b <= a)
 }
 
-// The class of a row of the first k layers' join.
-pub fn row_class(sizes: &[u32], k: usize, cells: &[i32], row: &[u32]) -> u32
-    requires { ⌜ (k ≤ length (now sizes)) × Framed (take k (now sizes)) (now cells) ⌝ }
-    requires { ⌜ 3 ≤ k ⌝ }
-    requires { ⌜ isRow (layersOf (take k (now sizes)) (now cells)) (now row) ≡ true ⌝ }
-    ensures { λ r. ⌜ r ≡ classIn (layersOf (take k (now (sizes .entry))) (now (cells .entry))) (now (row .entry)) ⌝ }
+// The class of a row of the first k layers' join, each rectangle grown by its layer's margin as it is read.
+pub fn row_class<'a>(
+    sizes: &'a [u32],
+    margins: &'a [u32],
+    k: usize,
+    cells: &[i32],
+    row: &[u32],
+) -> u32
+    requires { ⌜ (k ≤ length (now sizes)) × Readable (take k (now sizes)) (now margins) (now cells) × (3 ≤ k) ⌝ }
+    requires { let ns = take k (now sizes) in ⌜ isRow (layersOf ns (widened ns (now margins) (now cells))) (now row) ≡ true ⌝ }
+    ensures { λ r. let ns = take k (now (sizes .entry)) in
+        ⌜ r ≡ classIn (layersOf ns (widened ns (now (margins .entry)) (now (cells .entry)))) (now (row .entry)) ⌝ }
 {
-    let h = rect_in(sizes, k, cells, row, k - 2);
-    let v = rect_in(sizes, k, cells, row, k - 1);
+    let here = &sizes[..k];
+    let h = rect_in(here, margins, cells, row, k - 2);
+    let v = rect_in(here, margins, cells, row, k - 1);
     let n = k - 2;
     let mut j: usize = 0;
     while j < n {
-        let e = end_in(rect_in(sizes, k, cells, row, j), h, v);
+        let e = end_in(rect_in(here, margins, cells, row, j), h, v);
         if e != 0 {
             return 4 * (j as u32) + e;
         }
@@ -149,14 +163,15 @@ pub fn row_class(sizes: &[u32], k: usize, cells: &[i32], row: &[u32]) -> u32
     0
 }
 
-// The rectangle of layer j, counted from 0, in a row of the first k layers' join.
-fn rect_in(sizes: &[u32], k: usize, cells: &[i32], row: &[u32], j: usize) -> Rect
-    requires { ⌜ (k ≤ length (now sizes)) × Framed (take k (now sizes)) (now cells) × (j < k) ⌝ }
-    requires { ⌜ isRow (layersOf (take k (now sizes)) (now cells)) (now row) ≡ true ⌝ }
-    ensures { λ r. ⌜ r ≡ getD (rects (layersOf (take k (now (sizes .entry))) (now (cells .entry))) (now (row .entry))) j (commonOf []) ⌝ }
+// The grown rectangle of layer j, counted from 0, in a row of the layers' join.
+fn rect_in(sizes: &[u32], margins: &[u32], cells: &[i32], row: &[u32], j: usize) -> Rect
+    requires { ⌜ Readable (now sizes) (now margins) (now cells) × (j < length (now sizes)) ⌝ }
+    requires { let ns = now sizes in ⌜ isRow (layersOf ns (widened ns (now margins) (now cells))) (now row) ≡ true ⌝ }
+    ensures { λ r. let ns = now (sizes .entry) in
+        ⌜ r ≡ getD (rects (layersOf ns (widened ns (now (margins .entry)) (now (cells .entry)))) (now (row .entry))) j (commonOf []) ⌝ }
 {
-    let here = &sizes[..k];
-    rect_at(cells, sum_of(&here[..j]) + row[j] as usize)
+    let start = sum_of(&sizes[..j]);
+    grown_in(cells, start, sizes[j] as usize, row[j] as usize, margins[j])
 }
 
 // The first of the four ends of two segments that the rectangle covers: 1 left, 2 right, 3 bottom, 4 top, 0 for none.

@@ -1,5 +1,6 @@
 // The lines of the command `classes`, put into a buffer at a place.
 use crossings_code::row_class;
+use plan::MOST_LAYERS;
 use printing_code::put_field;
 use printing_code::put_joined;
 use printing_code::put_last;
@@ -24,7 +25,7 @@ ghost use Rattle.printing.specs.Lines.{fieldsEnd, lineOf, totalLine};
 ghost use Rattle.printing.specs.inner.Parts.{FitsAt};
 ghost use Rattle.listing.specs.Lines.{CLASS, classedLine, classedLines, classLine, classLines};
 
-// The ROW line of a row of the first k layers' join, with its class; the place behind it.
+// The ROW line of a row of the first k layers' join, with its class; the place behind it. The cells are grown, and no rectangle is grown again.
 fn put_classed(
     buf: &mut [u8],
     at: usize,
@@ -40,7 +41,8 @@ fn put_classed(
         (classedLine (layersOf (take k (now (sizes .entry))) (now (cells .entry))) (now (row .entry))) (now (buf .exit)) r ⌝ }
 {
     let end = put_joined(buf, at, sizes, k, cells, row);
-    let class = row_class(sizes, k, cells, row);
+    let none = [0u32; MOST_LAYERS];
+    let class = row_class(sizes, &none, k, cells, row);
     put_last(buf, end - 1, class as u64)
 }
 

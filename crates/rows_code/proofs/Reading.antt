@@ -85,7 +85,8 @@ none j = omega (arith, get-small small j)
 rect-none : (j : ℕ) (r : Rect) → grownBy (getD noMargins j 0) r ≡ r
 rect-none j r = ap (λ (m : ℕ). grownBy m r) (none j) ∙ grown-none r
 
-rects-none : (j : ℕ) (ns : List ℕ) (cells : List ℤ) (row : List ℕ) → fits ns row ≡ true → rects (layersOf ns (grownLayers noMargins j (layersOf ns cells))) row ≡ rects (layersOf ns cells) row
+-- the rectangles of a row
+pub rects-none : (j : ℕ) (ns : List ℕ) (cells : List ℤ) (row : List ℕ) → fits ns row ≡ true → rects (layersOf ns (grownLayers noMargins j (layersOf ns cells))) row ≡ rects (layersOf ns cells) row
 rects-none j [] cells row e = refl
 rects-none j (n ∷ ns) cells [] e = refl
 rects-none j (n ∷ ns) cells (p ∷ row) e =

@@ -109,7 +109,7 @@ pub fn row_at(table: &[u32], start: usize, k: usize) -> &[u32]
 }
 
 // The ground of the row that the cells name, each rectangle grown by its layer's margin as it is read.
-fn ground_in(sizes: &[u32], margins: &[u32], cells: &[i32], row: &[u32]) -> Sharing
+pub fn ground_in(sizes: &[u32], margins: &[u32], cells: &[i32], row: &[u32]) -> Sharing
     requires { ⌜ Readable (now sizes) (now margins) (now cells) ⌝ }
     ensures { λ r. let ns = now (sizes .entry) in
         ⌜ r ≡ groundOf (layersOf ns (widened ns (now (margins .entry)) (now (cells .entry)))) (now (row .entry)) ⌝ }

@@ -1,13 +1,17 @@
 -- `crossings_code::class_told`: the ground of the row tells whether there is one.
+use borrow.Author.Needs.{needs}
 use mathlib.Core.Path.{sym, _∙_}
+use lib.Seq.{length-take-le}
 use Rattle.rows.proofs.Answers.{ground-some}
 use Rattle.crossings.proofs.Answers.{told-none, told-class}
-use borrow.Author.Needs.{needs}
 use Rattle.crossings_code.proofs.class_told.Statement.{statement}
 use Rattle.crossings_code.proofs.class_told.Tie as tie
 
-row-ground-requires : tie.Need-row-ground-requires
-row-ground-requires c κs = search needs
+slice-aggregate-ground-in : tie.Need-slice-aggregate-ground-in
+slice-aggregate-ground-in c = let s : tie.Start = search needs in sym (length-take-le _ _ (s .pre .0))
+
+ground-in-requires : tie.Need-ground-in-requires
+ground-in-requires c κs = search needs
 
 enum-told : tie.Need-enum-told
 enum-told c = search needs
@@ -17,16 +21,16 @@ enum-told-2 c = search needs
 
 row-class-requires : tie.Need-row-class-requires
 row-class-requires c κs =
-    let s = c .before .before .before .before .before in
-    ((s .pre .0, s .pre .1), (s .pre .2, ground-some _ _ _ (sym (c .enum-told2 .given .1) ∙ c .before .before .row-ground .ensures) .0))
+    let s : tie.Start = search needs in
+    (s .pre, ground-some _ _ _ (sym (c .enum-told2 .given .1) ∙ c .before .before .ground-in .ensures) .0)
 
 returns : tie.Need-returns
-returns c = told-none _ _ (sym (c .enum-told .given .1) ∙ c .before .before .row-ground .ensures)
+returns c = told-none _ _ (sym (c .enum-told .given .1) ∙ c .before .before .ground-in .ensures)
 
 returns-2 : tie.Need-returns-2
-returns-2 c = let k = c .before in told-class _ _ _ (sym (k .enum-told2 .given .1) ∙ k .before .before .row-ground .ensures) _ (c .row-class .ensures)
+returns-2 c = let k = c .before in told-class _ _ _ (sym (k .enum-told2 .given .1) ∙ k .before .before .ground-in .ensures) _ (c .row-class .ensures)
 
 pub class-told-spec : {M : Type 1} → statement M
 class-told-spec =
     tie.close
-    (tie.spec row-ground-requires enum-told enum-told-2 row-class-requires returns returns-2)
+    (tie.spec slice-aggregate-ground-in ground-in-requires enum-told enum-told-2 row-class-requires returns returns-2)
