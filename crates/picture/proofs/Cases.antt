@@ -1,4 +1,4 @@
--- The case holds, as the definitions compute it.
+-- The cases hold, as the definitions compute them.
 use mathlib.Core.Path.{refl}
 use Rattle.geometry.specs.Rectangles.{maxZ, minZ, common, nonempty, kindOf, grownBy, areaOf}
 use Rattle.decimal.specs.Numerals.{size, decimal, numeral}
@@ -17,4 +17,4 @@ use Rattle.picture.specs.Cases.{Cases}
 
 pub cases : Cases
 unfolding maxZ minZ common nonempty kindOf grownBy areaOf size decimal numeral rectAt grown before sweepOrder areaIn kindIn sameZ same-spot belongs tableOf lineOf rowFields piece later headText openText titleText outlineText hatchText endText marginText closeText legendText rowsText rowText groundText edgeText pointText tailText around frameOf longer widthOf barOf hatchingOf beyond fourth outlined shapeAt legend layerPart mark rowPart pictureOf
-cases = record { small = refl }
+cases = record { small = refl; first = refl; second = refl; third = refl; fourth = refl; fifth = refl; sixth = refl }

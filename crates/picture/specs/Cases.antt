@@ -1,11 +1,13 @@
--- Theorem: a small plan, and all bytes of its picture: a layer with a margin, a point, a line, and one row, which is a point. Proved in proofs/Cases.antt.
+-- Theorem: a small plan, and all bytes of its picture: a layer with a margin, a point, a line, and one row, which is a point; and the hatchings of the layers
+-- that it has not. Proved in proofs/Cases.antt.
 use mathlib.Core.Path.{_≡_}
 use mathlib.Core.List.{List, [], _∷_, _++_}
 use Prim.Native.Nat.{ℕ}
 use lib.IntN.{ℤ, pos}
+use Rattle.geometry.specs.declared.Rect.{Rect}
 use Rattle.plan.specs.declared.Shape.{Shape}
 use Rattle.outcomes.specs.Texts.{ascii}
-use Rattle.picture.specs.Pictures.{picture}
+use Rattle.picture.specs.Pictures.{outlined, picture}
 
 -- two layers of two rectangles each, the first with a margin of 100
 abbrev pub smallShape : Shape
@@ -48,5 +50,20 @@ smallPicture = ascii "<svg xmlns='http://www.w3.org/2000/svg' viewBox='-135 -135
     ++ ascii "<g transform='translate(2235 648)'><path class='e' d='M0 0h1000'/><g transform='scale(27)'><text y='3'>1.000 m</text></g></g>\n"
     ++ ascii "</svg>\n"
 
+-- a square of four millimetres
+abbrev pub square : Rect
+square = record { left = pos 0; bottom = pos 0; right = pos 4; top = pos 4 }
+
+-- its outline, and a hatching in it
+abbrev pub hatched : List ℕ → List ℕ
+hatched strokes = ascii "<path d='M0 0H4V4H0Z'/><path class='h' d='" ++ (strokes ++ ascii "'/>")
+
 pub record Cases : Type 0 where
   pub small : picture smallShape smallCells ≡ smallPicture
+  -- layer 1 three level strokes, 2 three upright ones, 3 three that rise, 4 three that fall, 5 both diagonals, 6 one of each through the middle
+  pub first : outlined 1 1 square ≡ hatched (ascii "M0 1L4 1 4 2 0 2 0 3 4 3")
+  pub second : outlined 1 2 square ≡ hatched (ascii "M1 0L1 4 2 4 2 0 3 0 3 4")
+  pub third : outlined 1 3 square ≡ hatched (ascii "M0 2L2 4 4 4 0 0 2 0 4 2")
+  pub fourth : outlined 1 4 square ≡ hatched (ascii "M0 2L2 0 4 0 0 4 2 4 4 2")
+  pub fifth : outlined 1 5 square ≡ hatched (ascii "M0 0L4 4 4 0 0 4 0 2 0 0")
+  pub sixth : outlined 1 6 square ≡ hatched (ascii "M2 0L2 4 4 4 4 2 0 2 0 0")
