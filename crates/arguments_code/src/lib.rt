@@ -1,5 +1,7 @@
 // The arguments of the program read: the command, its numbers, where its texts come from; and the texts of the commands. What they are is defined in the
 // crate `commands`.
+#![tactic(auto)]
+
 mod arguments;
 mod limits;
 mod sources;

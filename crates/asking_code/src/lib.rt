@@ -1,4 +1,6 @@
 // The commands `apart` and `nearest` on a plan text, and the reading of one. What they say is defined in the crate `asking`.
+#![tactic(auto)]
+
 mod gaps;
 mod near;
 mod pair;

@@ -1,4 +1,6 @@
 // The command `pairs` on a plan text, which makes a whole run of each two layers. What it says is defined in the crate `asking`.
+#![tactic(auto)]
+
 mod every;
 mod lines;
 mod listing;
@@ -8,7 +10,7 @@ mod two;
 pub use pairing::pairs;
 
 // How far lines are listed: the place behind them, and how many they are.
-#[derive(Drop)]
+#[derive(Clone, Copy)]
 pub struct Listed {
     pub at: usize,
     pub rows: u32,

@@ -1,4 +1,6 @@
 // Tickets, strips and the answers of calls put into cells, and read from them. The layout is defined in the crate `cells`.
+#![tactic(auto)]
+
 ghost use Rattle.std.specs.Prelude.{◌≡◌, [], ◌∷◌, ◌+◌, ◌*◌, pos};
 ghost use Rattle.geometry.specs.Rectangles.{letter_of};
 ghost use Rattle.sweep.specs.Sweep.{order_number};

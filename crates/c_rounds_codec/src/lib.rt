@@ -1,4 +1,6 @@
 // A round's tickets read from cells, and its tickets and pages put into them. The layout is defined in the crate `c_rounds`.
+#![tactic(auto)]
+
 ghost use Rattle.std.specs.Prelude.{◌≡◌, cond, ◌+◌, ◌*◌, ◌≤◌, ◌<◌, ltb, length, take, drop};
 ghost use Rattle.lists.specs.inner.Stores.{Put};
 ghost use Rattle.c_cells.specs.Cells.{ticket_cells, ticket_in};

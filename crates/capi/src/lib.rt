@@ -1,5 +1,7 @@
 // The calls of the plan overlay for other languages. A slice is a pointer and a length, fixed cells are a pointer, and each call returns the number of
 // a cause, 0 for none. The cells of tickets and answers are laid out by crate `cells` (specs/Cells.antt); include/overlay.h declares the calls for C.
+#![tactic(auto)]
+
 ghost use Rattle.std.specs.Prelude.{◌≡◌, length};
 ghost use Rattle.std.proofs.Math.Option.{none, some};
 ghost use Rattle.plan.specs.Plan.{rect_at, plan_cause};

@@ -1,4 +1,6 @@
 // The command `check`: whether a text is a plan's, and what is wrong with it, by line and in words. What it says is defined in the crate `checking`.
+#![tactic(auto)]
+
 mod faults;
 mod notes;
 mod reasons;

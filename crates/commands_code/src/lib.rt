@@ -1,4 +1,6 @@
 // The program `overlay`, as one function over bytes. What it says is defined in the crate `commands`.
+#![tactic(auto)]
+
 mod answers;
 
 ghost use Rattle.std.specs.Prelude.{◌≤◌, ◌<◌, get_or};

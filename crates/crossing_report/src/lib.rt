@@ -1,8 +1,10 @@
 // The crossing report (02: pipes against ducts): the type of its answer. What it answers is defined in specs/; its code is in the crate `crossing_report_code`.
+#![tactic(auto)]
+
 use paging::Run;
 
 // What the crossing report answers: what the whole run does, and how many rows fall in each class, 0 to 16.
-#[derive(Drop)]
+#[derive(Clone, Copy)]
 pub struct CrossingReport {
     pub run: Run,
     pub counts: [u32; 17],

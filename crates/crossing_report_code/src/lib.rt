@@ -1,4 +1,6 @@
 // The crossing report (02: pipes against ducts): a whole run, whose rows are then counted by class. What it answers: the crate `crossing_report`.
+#![tactic(auto)]
+
 ghost use Rattle.std.specs.Prelude.{◌≡◌, ◌≤◌, length, take};
 ghost use Rattle.plan.specs.Plan.{layers_of};
 ghost use Rattle.crossings.specs.ClassCall.{class_counts};

@@ -1,4 +1,6 @@
 // The class of a row whose last two rectangles are segments (02, Q-2), and the checks 15 and 16. What they are is defined in the crate `crossings`.
+#![tactic(auto)]
+
 ghost use Rattle.std.specs.Prelude.{◌≡◌, [], true, ◌+◌, ◌*◌, ◌<◌, ◌≤◌, length, get_or, take};
 ghost use Rattle.plan.specs.Plan.{rect_at, layers_of};
 ghost use Rattle.plan.specs.Frames.{Framed};

@@ -1,8 +1,9 @@
 // Whole numbers in base ten: the kinds of bytes, and what reading a number gives. What a number is, spelled and read, is defined in specs/; `lexer` reads
 // numbers, `speller` writes them.
+#![tactic(auto)]
 
 // What a byte of a number is, by its range.
-#[derive(Drop)]
+#[derive(Clone, Copy)]
 pub enum Kind {
     Minus,
     Zero,
@@ -13,14 +14,14 @@ pub enum Kind {
 }
 
 // What reading a number gives: the number and the place behind it.
-#[derive(Drop)]
+#[derive(Clone, Copy)]
 pub enum Number {
     Value(i32, usize),
     Bad,
 }
 
 // The value of a run of digits, and the place behind it.
-#[derive(Drop)]
+#[derive(Clone, Copy)]
 pub struct Digits {
     pub value: u32,
     pub next: usize,

@@ -1,12 +1,14 @@
 // 64-bit floats as exact values: which are finite, and what a value is taken down or up to in whole numbers.
 //
 // A value is taken apart by its bits, so nothing is rounded on the way.
+#![tactic(auto)]
+
 ghost use Rattle.std.specs.Prelude.{◌≡◌, cond, ◌+◌, ◌≤◌, T, pos, neg_ℤ};
 ghost use Rattle.floats.specs.Values.{floor_of, ceil_of, finite};
 ghost use Rattle.floats.specs.Parts.{near, farthest, Parts, CutOf, field_of};
 
 // A float's size cut to a whole number, whether anything was cut off, and its sign.
-#[derive(Drop)]
+#[derive(Clone, Copy)]
 pub struct Cut {
     pub below: bool,
     pub whole: u64,

@@ -1,1 +1,2 @@
 // Ground counted once: the union of rectangles. Specifications and proofs only; no code.
+#![tactic(auto)]

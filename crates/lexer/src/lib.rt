@@ -1,4 +1,6 @@
 // The numbers and the lines of a plan text, read at a place of the text. What they are is defined in the crates `decimal` and `line`.
+#![tactic(auto)]
+
 mod numbers;
 mod parse;
 

@@ -1,4 +1,6 @@
 // The command `cover` of the program `overlay`, plan texts read and ordered, and windows texts read. What they say is defined in the crate `listing`.
+#![tactic(auto)]
+
 mod corners;
 mod covers;
 mod fault_lines;

@@ -1,4 +1,6 @@
 // The commands `classes` and `hours` of the program `overlay`, which make a whole run. What they say is defined in the crate `listing`.
+#![tactic(auto)]
+
 mod class_lines;
 mod class_runs;
 mod hour_lines;

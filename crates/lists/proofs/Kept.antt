@@ -31,7 +31,7 @@ module _ {A : Type 0} where
 
   pub mem-keep : (f : A → Bool) {a : A} {l : List A} → Memᴰ a l → f a ≡ true → Memᴰ a (keep f l)
   mem-keep f {a} {l = []} m e = absurd (Memᴰ.not-nil m)
-  mem-keep f {a} {l = b ∷ l} m e = go (f b) refl (Memᴰ.cases_cons m) (λ k. mem-keep f k e)
+  mem-keep f {a} {l = b ∷ l} m e = go (f b) refl (Memᴰ.cases_cons m) (λ k. mem-keep f {l = l} k e)
     where
       go : (t : Bool) → f b ≡ t → (a ≡ b) ⊎ Memᴰ a l → (Memᴰ a l → Memᴰ a (keep f l)) → Memᴰ a (cond t (b ∷ keep f l) (keep f l))
       go true q (inl z) r = Memᴰ.head z

@@ -33,12 +33,12 @@ module _ {A : Type 0} where
   pub all_take : {P : A → Type 0} {l : List A} (m : ℕ) → All P l → All P (take m l)
   all_take zero h = none_left
   all_take (suc m) none_left = none_left
-  all_take (suc m) (◌and◌ h hs) = ◌and◌ h (all_take m hs)
+  all_take {P} (suc m) (◌and◌ {a = a} {l = l} h hs) = ◌and◌ h (all_take {P = P} {l = l} m hs)
 
   pub all_drop : {P : A → Type 0} {l : List A} (m : ℕ) → All P l → All P (drop m l)
   all_drop zero h = h
   all_drop (suc m) none_left = none_left
-  all_drop (suc m) (◌and◌ h hs) = all_drop m hs
+  all_drop {P} (suc m) (◌and◌ {a = a} {l = l} h hs) = all_drop {P = P} {l = l} m hs
 
   -- ---- the same by places
   pub all_get_d : {P : A → Type 0} {l : List A} (d : A) → All P l → (k : ℕ) → k < length l → P (get_or l k d)

@@ -1,6 +1,8 @@
 // What lies nearest to a box in each layer of a plan (02, Q-1). What the call answers is defined in the crate `nearest`.
 //
 // Rectangles are reached by the plan's layers alone. After the checks they are grown, where a layer has a margin, and then each is looked at once.
+#![tactic(auto)]
+
 ghost use Rattle.std.specs.Prelude.{◌≡◌, true, ◌*◌, ◌<◌, ◌≤◌, length, take};
 ghost use Rattle.geometry.specs.Rectangles.{in_range, in_extent};
 ghost use Rattle.plan.specs.Plan.{rect_at, layers_of};

@@ -1,4 +1,6 @@
 // Outcomes put into the two buffers of a command. What they are is defined in the crate `outcomes`.
+#![tactic(auto)]
+
 mod parts;
 mod words;
 

@@ -1,5 +1,7 @@
 // The calls that page through the walk of a plan: the fresh ticket, a page, and a timed page. The whole run is in the crate `runner`; what the calls
 // answer is defined in the crate `paging`.
+#![tactic(auto)]
+
 mod answers;
 mod counters;
 mod grown;

@@ -1,5 +1,6 @@
 // Cursors, tickets, pages and whole runs: the types of the calls' answers. What the calls answer is defined in specs/; what demand 3 says of lists of
 // calls is in the crate `demands`, the code of the calls in the crates `pager` and `runner`.
+#![tactic(auto)]
 
 use plan::MOST_SLOTS;
 use search::Stop;
@@ -10,7 +11,7 @@ pub const MOST_PROBES: u64 = 144115188075855872;
 
 // Names the probe due next: the guard's layer, from 1, and place, how many slots are filled, the chosen places, first
 // slot first, unfilled ones 0, and the place to try. Or the walk has ended, and all else is 0.
-#[derive(Drop)]
+#[derive(Clone, Copy)]
 pub struct Cursor {
     pub ended: bool,
     pub layer: u32,
@@ -21,14 +22,14 @@ pub struct Cursor {
 }
 
 // What goes from call to call (01 and 02: a ticket): the cursor, and how many probes its run has done so far.
-#[derive(Drop)]
+#[derive(Clone, Copy)]
 pub struct Ticket {
     pub cursor: Cursor,
     pub count: u64,
 }
 
 // What the fresh-ticket call answers: the number of a refusal or 0, and the ticket of the first probe, or ended.
-#[derive(Drop)]
+#[derive(Clone, Copy)]
 pub struct Fresh {
     pub number: u32,
     pub ticket: Ticket,
@@ -36,7 +37,7 @@ pub struct Fresh {
 
 // What the page call answers: why it stopped, how many rows it put into the table, how many probes it did, the sum of its rows'
 // areas, and the ticket for what is due next.
-#[derive(Drop)]
+#[derive(Clone, Copy)]
 pub struct Page {
     pub stop: Stop,
     pub rows: u32,
@@ -46,7 +47,7 @@ pub struct Page {
 }
 
 // What the whole run answers: how many rows, how many probes, the sum of the areas, and the ground of all rows counted once.
-#[derive(Drop)]
+#[derive(Clone, Copy)]
 pub enum Run {
     Refused(u32),
     Done(u32, u64, Total, Total),

@@ -1,9 +1,10 @@
 // The pair of layers that shows why places name no row of the table (02, Q-11): defined in specs/. The code is in the crate `pairs_code`.
 //
 // Upright rectangles have a common point exactly where each two of them meet, so two are enough to show that there is none.
+#![tactic(auto)]
 
 // What the pair call answers.
-#[derive(Drop)]
+#[derive(Clone, Copy)]
 pub enum PairAnswer {
     Refused(u32),
     Share,

@@ -1,4 +1,6 @@
 // The first pair of layers whose rectangles at the places do not meet (02, Q-11). What the call answers is defined in the crate `pairs`.
+#![tactic(auto)]
+
 ghost use Rattle.std.specs.Prelude.{◌≡◌, true, ◌+◌, ◌≤◌, length, take};
 ghost use Rattle.plan.specs.Plan.{layers_of};
 ghost use Rattle.join.specs.Join.{rects};

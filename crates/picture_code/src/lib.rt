@@ -1,4 +1,6 @@
 // The command `picture`: a picture of the plan of a text. What it says is defined in the crate `picture`.
+#![tactic(auto)]
+
 mod drawing;
 mod fill;
 mod frames;

@@ -1,4 +1,5 @@
 // A plan: its shape and the numbers that bound it. What a plan, its layers and its causes are is defined in specs/; the code is in the crate `plan_code`.
+#![tactic(auto)]
 
 // The most layers that a plan has.
 pub const MOST_LAYERS: usize = 6;
@@ -17,7 +18,7 @@ pub const MOST_CELLS: usize = 12288;
 pub const MOST_MARGIN: u32 = 50000;
 
 // A plan's k, six sizes and six margins.
-#[derive(Drop)]
+#[derive(Clone, Copy)]
 pub struct Shape {
     pub k: u32,
     pub sizes: [u32; MOST_LAYERS],

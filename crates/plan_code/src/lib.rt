@@ -2,6 +2,8 @@
 // `plan`.
 //
 // A shape goes by value beside the lent cells. Rectangles are read by `rect_at` alone, from all cells or from one layer's.
+#![tactic(auto)]
+
 mod checks;
 mod margins;
 

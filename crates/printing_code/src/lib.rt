@@ -1,4 +1,6 @@
 // The lines of the report, put into a buffer at a place: a row's, the total, a refusal. They are defined in the crate `printing`.
+#![tactic(auto)]
+
 ghost use Rattle.std.specs.Prelude.{◌≡◌, true, [], ◌∷◌, ◌++◌, ◌+◌, ◌%◌, ◌≤◌, ◌<◌, length, take};
 ghost use Rattle.decimal.specs.Numerals.{digits, decimal};
 ghost use Rattle.geometry.specs.Rectangles.{letter_of};

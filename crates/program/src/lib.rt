@@ -1,4 +1,6 @@
 // The program `overlay` for C: its functions are linked with programs/overlay.c, which reads, calls, writes and exits. include/overlay.h declares them.
+#![tactic(auto)]
+
 ghost use Rattle.std.specs.Prelude.{◌≡◌, ◌++◌, length, drop};
 ghost use Rattle.commands.specs.Arguments.{text_source, second_source};
 ghost use Rattle.commands.specs.Outcomes.{command_of};

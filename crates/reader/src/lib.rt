@@ -1,6 +1,8 @@
 // The plan text read into a shape and lent cells. What the reader answers is defined in the crate `text`.
 //
 // It goes over the text twice: once to decide, without writing, and once to fill the cells.
+#![tactic(auto)]
+
 mod decide;
 mod fill;
 

@@ -1,4 +1,6 @@
 // The report program (01, "The report"): reads a text, has the report on it made, and writes that.
+#![tactic(auto)]
+
 ghost use Rattle.std.specs.Prelude.{◌≡◌, ◌≤◌, length, take, replicate};
 ghost use Rattle.reporting.specs.Report.{report_of, out_after};
 

@@ -1,4 +1,6 @@
 // The report on a plan text, put into a buffer. What is printed is defined in the crate `reporting`.
+#![tactic(auto)]
+
 ghost use Rattle.std.specs.Prelude.{◌≡◌, ◌++◌, ◌≤◌, length, take};
 ghost use Rattle.plan.specs.Limits.{most_cells};
 ghost use Rattle.plan.specs.Plan.{count, grown, layers, Sound};

@@ -1,5 +1,7 @@
 // The round call (02, Q-10): up to sixteen clients, 02's tablets, page through one plan in turns, out of one budget and into one table. What it answers is
 // defined in the crate `rounds`. All clients are checked before anything is written.
+#![tactic(auto)]
+
 mod serving;
 
 ghost use Rattle.std.specs.Prelude.{◌≡◌, false, ◌≤◌, length};

@@ -1,4 +1,6 @@
 // Rows found by their places: the row call (01) and the call for a row's common ground (02, Q-7). What they answer is defined in the crate `rows`.
+#![tactic(auto)]
+
 ghost use Rattle.std.specs.Prelude.{◌≡◌, true, [], ◌∷◌, ◌+◌, ◌*◌, ◌<◌, ◌≤◌, length, take, drop};
 ghost use Rattle.geometry.specs.Rectangles.{grown_by};
 ghost use Rattle.plan.specs.Plan.{rect_at, layers_of};

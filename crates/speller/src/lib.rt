@@ -1,4 +1,6 @@
 // The numbers and the lines of a plan text, measured, and put at a place of a buffer. What they are is defined in the crates `decimal` and `line`.
+#![tactic(auto)]
+
 mod measure;
 mod numbers;
 mod put;

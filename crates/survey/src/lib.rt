@@ -1,8 +1,9 @@
 // Corner records of the survey instrument, survey strips, and the layer of the records' covers (02, Q-9): defined in specs/. The code is in the crate
 // `survey_code`.
+#![tactic(auto)]
 
 // A corner record of the instrument.
-#[derive(Drop)]
+#[derive(Clone, Copy)]
 pub struct Corners {
     pub left: f64,
     pub bottom: f64,
@@ -11,7 +12,7 @@ pub struct Corners {
 }
 
 // A survey strip on one axis: free, with a lower stop, with an upper stop, or with both, the lower one first. Its stops belong to it.
-#[derive(Drop)]
+#[derive(Clone, Copy)]
 pub enum Strip {
     Free,
     From(f64),
@@ -20,7 +21,7 @@ pub enum Strip {
 }
 
 // What the call answers: how many records are kept, or a cause's number.
-#[derive(Drop)]
+#[derive(Clone, Copy)]
 pub enum Covering {
     Kept(usize),
     Refused(u32),

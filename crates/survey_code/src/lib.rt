@@ -1,6 +1,8 @@
 // The covers of corner records as a layer (02, Q-9). What the call answers is defined in the crate `survey`.
 //
 // The call judges strips and records first, then counts the records that are kept, and only then puts their covers.
+#![tactic(auto)]
+
 mod checks;
 mod fill;
 mod keep;

@@ -1,4 +1,6 @@
 // The sweep order of a plan made in a lent buffer, and told from any other. Which list that is, is defined in the crate `sweep`.
+#![tactic(auto)]
+
 mod order;
 
 ghost use Rattle.std.specs.Prelude.{◌≡◌, length};

@@ -1,9 +1,10 @@
 // The plan text. Which texts are well formed, and what reading and writing one answers, is defined in specs/; the code is in the crates `reader` and `writer`.
+#![tactic(auto)]
 
 use plan::{MOST_LAYERS, Shape};
 
 // What the reader's first pass has found: well formed and nothing wrong so far, RECT lines due, layers, rectangles in all, sizes, margins.
-#[derive(Drop)]
+#[derive(Clone, Copy)]
 pub struct Tally {
     pub formed: bool,
     pub good: bool,
@@ -15,21 +16,21 @@ pub struct Tally {
 }
 
 // What the reader answers: a cause's number, or 0 and the plan's shape.
-#[derive(Drop)]
+#[derive(Clone, Copy)]
 pub struct Reading {
     pub number: u32,
     pub shape: Shape,
 }
 
 // What the reader's first pass decides, and the place behind the PLAN line.
-#[derive(Drop)]
+#[derive(Clone, Copy)]
 pub struct Decision {
     pub reading: Reading,
     pub next: usize,
 }
 
 // What the writer answers: the length of the text, or a cause's number.
-#[derive(Drop)]
+#[derive(Clone, Copy)]
 pub enum Writing {
     Written(usize),
     Refused(u32),

@@ -1,9 +1,11 @@
 // Sums of areas: one type, whole square metres and a rest, and one function that adds to it.
+#![tactic(auto)]
+
 ghost use Rattle.std.specs.Prelude.{◌≡◌, ◌+◌, ◌<◌};
 ghost use Rattle.totals.specs.Totals.{total_of, value_of, Kept};
 
 // A sum of areas: whole square metres, and a rest in square millimetres, which is below a square metre.
-#[derive(Drop)]
+#[derive(Clone, Copy)]
 pub struct Total {
     pub metres: u64,
     pub rest: u64,

@@ -1,4 +1,6 @@
 // Windows of the week (02, Q-12) read and checked, and the minutes that a row's windows share. What these are is defined in the crate `windows`.
+#![tactic(auto)]
+
 ghost use Rattle.std.specs.Prelude.{◌≡◌, true, ◌+◌, ◌*◌, ◌≤◌, max, min, length, take};
 ghost use Rattle.std.proofs.Math.Option.{some};
 ghost use Rattle.lists.specs.Lists.{sum};

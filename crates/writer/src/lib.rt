@@ -1,4 +1,6 @@
 // The plan text written from a shape and lent cells. What the writer answers is defined in the crate `text`.
+#![tactic(auto)]
+
 mod measure;
 mod put;
 
