@@ -105,8 +105,14 @@ module _ {S T : Type 0} where
       → map old_probe (probes g (narrow_slots ss ts) ps (c, w)) ≡ probes g ss ps c
   probes-old idle g ps c = refl
   probes-old {w} (idle-more {s = s} {ss = ss} {t = t} {ts = ts} h hs) g ps c =
-      map_each old_probe _ 0 s.size ∙ each-alike _ _ 0 s.size (λ q l. rw (h q (omega arith)) (go q (s.pass c q) (λ e. probes-old hs g (ps ++ q ∷ []) e)))
+      map_each old_probe new 0 s.size ∙ each-alike (λ q. map old_probe (new q)) old 0 s.size (λ q l. rw (h q (omega arith)) (go q (s.pass c q) (λ e. probes-old hs g (ps ++ q ∷ []) e)))
     where
+      new : ℕ → List (Probe (S × T))
+      new q = record { guard = g; chosen = ps; tried = q; yields = yield (narrow_slots ss ts) (pair (s.pass c q) (t w q)) } ∷ given (probes g (narrow_slots ss ts) (ps ++ q ∷ [])) (pair (s.pass c q) (t w q))
+
+      old : ℕ → List (Probe S)
+      old q = record { guard = g; chosen = ps; tried = q; yields = yield ss (s.pass c q) } ∷ given (probes g ss (ps ++ q ∷ [])) (s.pass c q)
+
       go : (q : ℕ) (o : Option S) → ((e : S) → map old_probe (probes g (narrow_slots ss ts) (ps ++ q ∷ []) (e, w)) ≡ probes g ss (ps ++ q ∷ []) e)
           → map old_probe (record { guard = g; chosen = ps; tried = q; yields = yield (narrow_slots ss ts) (pair o (some w)) } ∷ given (probes g (narrow_slots ss ts) (ps ++ q ∷ [])) (pair o (some w))) ≡ record { guard = g; chosen = ps; tried = q; yields = yield ss o } ∷ given (probes g ss (ps ++ q ∷ [])) o
       go q none i = ap (λ (o : Option S). record { guard = g; chosen = ps; tried = q; yields = o } ∷ []) (idle-yield hs none)
