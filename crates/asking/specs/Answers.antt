@@ -2,7 +2,7 @@
 use Rattle.std.specs.Prelude.{List, cond, ℕ, leb, ℤ, length}
 use Rattle.geometry.specs.declared.Rect.{Rect}
 use Rattle.plan.specs.declared.Shape.{Shape}
-use Rattle.plan.specs.Causes.{unless, ◌orElse◌, on_cause}
+use Rattle.plan.specs.Causes.{unless, ◌or_else◌, on_cause}
 use Rattle.plan.specs.Limits.{most_cells}
 use Rattle.text.specs.Reader.{read_cause, text_shape, text_cells}
 use Rattle.nearest.specs.Nearest.{nearest_call}

@@ -14,7 +14,7 @@ use Rattle.text.specs.Spelling.{all_inner, headed}
 use Rattle.text.specs.Parsing.{lines_of}
 use Rattle.text.specs.Reader.{lines_cause, read_cause}
 use Rattle.text.proofs.Parsing.{spelling-of-lines}
-use Rattle.plan.specs.Causes.{unless, ◌orElse◌}
+use Rattle.plan.specs.Causes.{unless, ◌or_else◌}
 use mathlib.Core.Option.{Option, none, some}
 use Rattle.lists.specs.Lists.{list_in}
 use Rattle.text.specs.Plans.{cells_in, agrees}

@@ -17,7 +17,7 @@ use Rattle.line.specs.declared.Line.{Line}
 use Rattle.line.specs.declared.Line.TheVariants.{Plan, Layer, Rectangle}
 use Rattle.text.specs.declared.Tally.{Tally}
 use Rattle.text.specs.Spelling.{all_inner, headed}
-use Rattle.plan.specs.Causes.{unless, ◌orElse◌}
+use Rattle.plan.specs.Causes.{unless, ◌or_else◌}
 use Rattle.text.specs.Plans.{agrees}
 use Rattle.text.specs.inner.Counting.{none_yet, spoilt, pick, up_to, layer_right, with_layer, add_layer, with_rect, add_rect, add_lines, layers_right, tally_cause}
 use Rattle.text.proofs.Verdict.{verdict}

@@ -2,7 +2,7 @@
 use Rattle.std.specs.Prelude.{List, [], ◌∷◌, ◌++◌, cond, ℕ, eqb, leb, length, take}
 use Rattle.lists.specs.Lists.{sum, list_in}
 use Rattle.plan.specs.declared.Shape.{Shape}
-use Rattle.plan.specs.Causes.{unless, ◌orElse◌, on_cause}
+use Rattle.plan.specs.Causes.{unless, ◌or_else◌, on_cause}
 use Rattle.plan.specs.Limits.{most_cells}
 use Rattle.decimal.specs.Numerals.{decimal}
 use Rattle.line.specs.declared.Line.{Line}

@@ -7,7 +7,7 @@ use native.Mathlib.Omega.{arith}
 use lib.IntN.{ℤ}
 use lib.ListN.{length}
 use Rattle.plan.specs.declared.Shape.{Shape}
-use Rattle.plan.specs.Causes.{◌orElse◌, on_cause, Check, Passed}
+use Rattle.plan.specs.Causes.{◌or_else◌, on_cause, Check, Passed}
 use Rattle.plan.specs.Plan.{grown, plan_cause, Typed, Sound}
 use Rattle.plan.specs.Theorems.{PlanChecks}
 use Rattle.plan.proofs.Causes.{check-then, check-past}

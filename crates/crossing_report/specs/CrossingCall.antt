@@ -2,7 +2,7 @@
 use Rattle.std.specs.Prelude.{List, ℕ, ℤ, replicate}
 use Rattle.std.proofs.Math.Option.{none}
 use Rattle.plan.specs.declared.Shape.{Shape}
-use Rattle.plan.specs.Causes.{◌orElse◌, on_cause}
+use Rattle.plan.specs.Causes.{◌or_else◌, on_cause}
 use Rattle.plan.specs.Plan.{layers}
 use Rattle.join.specs.Table.{plan_table}
 use Rattle.crossings.specs.ClassCall.{crossing_cause, class_counts}

@@ -7,7 +7,7 @@ use lib.IntN.{ℤ}
 use lib.Dec.{leb}
 use borrow.Author.Tests.{le-leb, lt-leb, leb-true}
 use Rattle.plan.specs.declared.Shape.{Shape}
-use Rattle.plan.specs.Causes.{unless, ◌orElse◌}
+use Rattle.plan.specs.Causes.{unless, ◌or_else◌}
 use Rattle.plan.specs.Plan.{Layer, layers_of, sizes_of, layers, plan_cause, Typed, Sound}
 use Rattle.plan.proofs.Plan.{or-else-zero, unless-zero}
 use Rattle.rows.specs.declared.Ground.{Ground}

@@ -4,7 +4,7 @@ use Rattle.std.specs.Prelude.{List, Bool, true, false, cond, ◌&&◌, ℕ, ◌-
 use Rattle.lists.specs.Lists.{upto, keep, holds_below}
 use Rattle.geometry.specs.declared.Rect.{Rect}
 use Rattle.plan.specs.declared.Shape.{Shape}
-use Rattle.plan.specs.Causes.{unless, ◌orElse◌, on_cause}
+use Rattle.plan.specs.Causes.{unless, ◌or_else◌, on_cause}
 use Rattle.plan.specs.Plan.{Layer, layers_of, sizes_of, layers, plan_cause}
 use Rattle.plan.specs.Spots.{layer_at}
 use Rattle.join.specs.Join.{same_z}

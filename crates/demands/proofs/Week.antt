@@ -11,7 +11,7 @@ use Rattle.lists.specs.Lists.{is_some, list_in}
 use Rattle.lists.proofs.Kept.{map-map}
 use Rattle.geometry.specs.declared.Rect.{Rect}
 use Rattle.plan.specs.declared.Shape.{Shape}
-use Rattle.plan.specs.Causes.{unless, ◌orElse◌}
+use Rattle.plan.specs.Causes.{unless, ◌or_else◌}
 use Rattle.plan.specs.Plan.{Layer, sizes_of, grown, layers, Sound}
 use Rattle.plan.proofs.Growing.{framed}
 use Rattle.join.specs.Join.{area_in}

@@ -13,7 +13,7 @@ use Rattle.totals.specs.declared.Total.{Total}
 use Rattle.totals.specs.Totals.{Kept}
 use Rattle.totals.proofs.Totals.{kept-total}
 use Rattle.plan.specs.declared.Shape.{Shape}
-use Rattle.plan.specs.Causes.{unless, ◌orElse◌}
+use Rattle.plan.specs.Causes.{unless, ◌or_else◌}
 use Rattle.plan.specs.Plan.{layers, Sound, grown}
 use Rattle.plan.proofs.Plan.{or-else-zero, unless-zero}
 use Rattle.sweep.specs.Sweep.{sweep_order}

@@ -1,7 +1,7 @@
 -- What a command says that is given a plan text.
 use Rattle.std.specs.Prelude.{List, ℕ, leb, ℤ, length}
 use Rattle.plan.specs.declared.Shape.{Shape}
-use Rattle.plan.specs.Causes.{unless, ◌orElse◌, on_cause}
+use Rattle.plan.specs.Causes.{unless, ◌or_else◌, on_cause}
 use Rattle.plan.specs.Limits.{most_cells}
 use Rattle.text.specs.Reader.{read_cause, text_shape, text_cells}
 use Rattle.outcomes.specs.Outcomes.{Outcome, refused}

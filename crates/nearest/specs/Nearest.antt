@@ -5,7 +5,7 @@ use Rattle.lists.specs.Lists.{each, upto}
 use Rattle.geometry.specs.declared.Rect.{Rect}
 use Rattle.geometry.specs.Rectangles.{in_range}
 use Rattle.plan.specs.declared.Shape.{Shape}
-use Rattle.plan.specs.Causes.{unless, ◌orElse◌, on_cause}
+use Rattle.plan.specs.Causes.{unless, ◌or_else◌, on_cause}
 use Rattle.plan.specs.Plan.{Layer, layers, plan_cause}
 use Rattle.plan.specs.Spots.{layer_at}
 use Rattle.nearest.specs.declared.Near.{Near}

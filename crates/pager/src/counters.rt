@@ -1,6 +1,6 @@
 // A run's counter (02: the run record): what the calls ask of it, and how they write it.
 ghost use Rattle.std.specs.Prelude.{◌≡◌, [], ◌∷◌, length};
-ghost use Rattle.plan.specs.Causes.{unless, ◌orElse◌};
+ghost use Rattle.plan.specs.Causes.{unless, ◌or_else◌};
 ghost use Rattle.paging.specs.Calls.{one_cell, current};
 
 use paging::MOST_PROBES;

@@ -15,7 +15,7 @@ use Rattle.lists.specs.Lists.{Tells, is_some, list_in}
 use Rattle.lists.proofs.Tests.{le-tells, tells}
 use Rattle.totals.specs.Totals.{total_of}
 use Rattle.plan.specs.declared.Shape.{Shape}
-use Rattle.plan.specs.Causes.{unless, ◌orElse◌, on_cause, Check, fails, passes, Passed}
+use Rattle.plan.specs.Causes.{unless, ◌or_else◌, on_cause, Check, fails, passes, Passed}
 use Rattle.plan.specs.Plan.{sizes_of, plan_cause, Typed, Sound, grown}
 use Rattle.plan.specs.Theorems.{PlanChecks}
 use Rattle.plan.proofs.Plan.{check-passed, check-failed, check-others}

@@ -6,7 +6,7 @@ use Rattle.lists.specs.Lists.{is_some, same}
 use Rattle.totals.specs.declared.Total.{Total}
 use Rattle.totals.specs.Totals.{total_of}
 use Rattle.plan.specs.declared.Shape.{Shape}
-use Rattle.plan.specs.Causes.{unless, ◌orElse◌, on_cause}
+use Rattle.plan.specs.Causes.{unless, ◌or_else◌, on_cause}
 use Rattle.plan.specs.Plan.{Layer, layers, grown}
 use Rattle.sweep.specs.Sweep.{sweep_order, order_cause}
 use Rattle.ground.specs.Union.{union_of, grounds}

@@ -3,7 +3,7 @@
 use Rattle.std.specs.Prelude.{List, [], ◌∷◌, map, ℕ, ◌+◌, ◌*◌, ℤ, leb, length}
 use Rattle.std.proofs.Math.Option.{Option}
 use Rattle.lists.specs.Lists.{is_some, same}
-use Rattle.plan.specs.Causes.{unless, ◌orElse◌, on_cause}
+use Rattle.plan.specs.Causes.{unless, ◌or_else◌, on_cause}
 use Rattle.plan.specs.declared.Shape.{Shape}
 use Rattle.plan.specs.Plan.{Layer, grown}
 use Rattle.sweep.specs.Sweep.{sweep_order}

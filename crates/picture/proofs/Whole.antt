@@ -15,7 +15,7 @@ use Rattle.geometry.specs.declared.Rect.{Rect}
 use Rattle.geometry.specs.declared.Kind.TheVariants.{Point}
 use Rattle.geometry.proofs.Integers.{zarith, sub-law}
 use Rattle.decimal.specs.Numerals.{decimal, numeral}
-use Rattle.plan.specs.Causes.{◌orElse◌, on_cause}
+use Rattle.plan.specs.Causes.{◌or_else◌, on_cause}
 use Rattle.plan.specs.Plan.{Layer, grown}
 use Rattle.plan.specs.Spots.{layer_at}
 use Rattle.sweep.specs.Sweep.{sweep_order}

@@ -4,7 +4,7 @@ use mathlib.Core.Bool.{Bool, true, false}
 use Prim.Native.Nat.{ℕ, ◌<◌}
 use native.Mathlib.Omega.{arith}
 use Rattle.lists.specs.Lists.{Tells}
-use Rattle.plan.specs.Causes.{unless, ◌orElse◌, Check, fails, passes, Passed}
+use Rattle.plan.specs.Causes.{unless, ◌or_else◌, Check, fails, passes, Passed}
 use Rattle.plan.proofs.Plan.{or-else-first}
 
 -- the last check, behind a cause that does not apply

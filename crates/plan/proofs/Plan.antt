@@ -16,7 +16,7 @@ use Rattle.lists.proofs.Tests.{both, below_at}
 use Rattle.geometry.specs.Rectangles.{in_range}
 use Rattle.plan.specs.Limits.{most_rects}
 use Rattle.plan.specs.declared.Shape.{Shape}
-use Rattle.plan.specs.Causes.{unless, ◌orElse◌}
+use Rattle.plan.specs.Causes.{unless, ◌or_else◌}
 use Rattle.plan.specs.Plan.{rect_at, count, sizes_of, fits_at, all_fit, all_ranged, shape_cause, plan_cause, Sound}
 
 -- ---- two checks

@@ -16,7 +16,7 @@ use Rattle.geometry.specs.declared.Rect.{Rect}
 use Rattle.geometry.specs.Rectangles.{held, in_range}
 use Rattle.geometry.proofs.Rectangles.{ranged, in-range, old-range}
 use Rattle.plan.specs.declared.Shape.{Shape}
-use Rattle.plan.specs.Causes.{unless, ◌orElse◌, Check, fails, passes, Passed}
+use Rattle.plan.specs.Causes.{unless, ◌or_else◌, Check, fails, passes, Passed}
 use Rattle.plan.specs.Plan.{rect_at, count, fits_at, all_fit, all_ranged, plan_cause}
 use Rattle.plan.specs.Theorems.{Bounded, AllIn, PlanChecks, OldCells, Plans}
 use Rattle.plan.proofs.Plan.{front-sum, checked}

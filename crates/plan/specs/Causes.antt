@@ -1,16 +1,16 @@
 -- Causes by their numbers (01, "Causes and their numbers"): 0 stands for none.
 use Rattle.std.specs.Prelude.{Bool, true, false, ◌≡◌, ℕ, zero, suc}
 
-infixl 20 ◌orElse◌
+infixl 20 ◌or_else◌
 -- the cause, unless its check is passed
 abbrev pub unless : Bool → ℕ → ℕ
 unless true cause = 0
 unless false cause = cause
 
 -- 01: "Checked in the order of the lines that apply": the second, where the first does not apply
-abbrev pub ◌orElse◌ : ℕ → ℕ → ℕ
-◌orElse◌ zero second = second
-◌orElse◌ (suc first) second = suc first
+abbrev pub ◌or_else◌ : ℕ → ℕ → ℕ
+◌or_else◌ zero second = second
+◌or_else◌ (suc first) second = suc first
 
 -- the first where no cause applies, else what a refusal with that number is
 abbrev pub on_cause : {A : Type 0} → ℕ → A → (ℕ → A) → A

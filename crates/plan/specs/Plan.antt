@@ -4,7 +4,7 @@ use Rattle.lists.specs.Lists.{sum, each, holds_below}
 use Rattle.geometry.specs.declared.Rect.{Rect}
 use Rattle.geometry.specs.Rectangles.{in_range, most_margin, grown_by}
 use Rattle.plan.specs.declared.Shape.{Shape}
-use Rattle.plan.specs.Causes.{unless, ◌orElse◌}
+use Rattle.plan.specs.Causes.{unless, ◌or_else◌}
 use Rattle.plan.specs.Limits.{most_layers, most_size}
 
 -- 01: "signed 32-bit cells, four for each rectangle: left, bottom, right, top"

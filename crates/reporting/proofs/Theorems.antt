@@ -14,7 +14,7 @@ use lib.Seq.{take-append_seam, drop-append_seam}
 use borrow.Author.Tests.{le-leb, lt-leb, leb-true, leb-false}
 use Rattle.lists.proofs.Tests.{total}
 use Rattle.plan.specs.declared.Shape.{Shape}
-use Rattle.plan.specs.Causes.{unless, ◌orElse◌, Check, fails, passes, Passed}
+use Rattle.plan.specs.Causes.{unless, ◌or_else◌, Check, fails, passes, Passed}
 use Rattle.plan.specs.Limits.{most_cells}
 use Rattle.plan.specs.Plan.{Sound, grown}
 use Rattle.sweep.specs.Sweep.{sweep_order}

@@ -2,7 +2,7 @@
 use Rattle.std.specs.Prelude.{List, ◌++◌, ℕ, leb, ℤ, length, drop, replicate}
 use Rattle.std.proofs.Math.Option.{none}
 use Rattle.plan.specs.declared.Shape.{Shape}
-use Rattle.plan.specs.Causes.{unless, ◌orElse◌, on_cause}
+use Rattle.plan.specs.Causes.{unless, ◌or_else◌, on_cause}
 use Rattle.plan.specs.Limits.{most_cells}
 use Rattle.plan.specs.Plan.{sizes_of, layers, grown}
 use Rattle.sweep.specs.Sweep.{sweep_order}

@@ -10,7 +10,7 @@ use lib.ListN.{length}
 use borrow.Author.Tests.{leb-true, le-leb, eqb-true, eqb-false, eq-eqb}
 use Rattle.lists.specs.Lists.{Tells}
 use Rattle.lists.proofs.Tests.{both, total, tells}
-use Rattle.plan.specs.Causes.{unless, ◌orElse◌, Check, fails, passes, Passed}
+use Rattle.plan.specs.Causes.{unless, ◌or_else◌, Check, fails, passes, Passed}
 use Rattle.plan.specs.Plan.{grown, Typed}
 use Rattle.plan.proofs.Plan.{or-else-zero, unless-zero}
 use Rattle.plan.proofs.Causes.{check-last, check-then}

@@ -4,7 +4,7 @@ use Rattle.std.proofs.Math.Option.{none}
 use Rattle.lists.specs.Lists.{each, upto}
 use Rattle.totals.specs.Totals.{total_of}
 use Rattle.plan.specs.declared.Shape.{Shape}
-use Rattle.plan.specs.Causes.{unless, ◌orElse◌, on_cause}
+use Rattle.plan.specs.Causes.{unless, ◌or_else◌, on_cause}
 use Rattle.sweep.specs.Sweep.{order_cause}
 use Rattle.search.specs.declared.Stop.TheVariants.{Spent}
 use Rattle.paging.specs.declared.Page.{Page}

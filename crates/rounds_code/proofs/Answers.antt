@@ -7,7 +7,7 @@ use Prim.Native.Nat.{ℕ, zero, suc}
 use lib.IntN.{ℤ}
 use lib.ListN.{length}
 use Rattle.plan.specs.declared.Shape.{Shape}
-use Rattle.plan.specs.Causes.{◌orElse◌}
+use Rattle.plan.specs.Causes.{◌or_else◌}
 use Rattle.sweep.specs.Sweep.{order_cause}
 use Rattle.paging.specs.declared.Page.{Page}
 use Rattle.paging.specs.Calls.{page_cause}

@@ -11,7 +11,7 @@ use borrow.Author.Tests.{le-leb, lt-leb}
 use lib.IntN.{ℤ}
 use lib.ListN.{length, get_or, take, drop}
 use Rattle.plan.specs.declared.Shape.{Shape}
-use Rattle.plan.specs.Causes.{◌orElse◌}
+use Rattle.plan.specs.Causes.{◌or_else◌}
 use Rattle.plan.proofs.Plan.{or-else-first}
 use Rattle.paging.specs.declared.Ticket.{Ticket}
 use Rattle.paging.specs.Overlays.{overlay}

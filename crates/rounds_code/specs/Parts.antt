@@ -6,7 +6,7 @@ use Rattle.totals.specs.Totals.{total_of}
 use Rattle.geometry.specs.declared.Rect.{Rect}
 use Rattle.plan.specs.declared.Shape.{Shape}
 use Rattle.plan.specs.Plan.{sizes_of, grown, Sound}
-use Rattle.plan.specs.Causes.{◌orElse◌}
+use Rattle.plan.specs.Causes.{◌or_else◌}
 use Rattle.sweep.specs.Sweep.{order_cause}
 use Rattle.search.specs.declared.Stop.{Stop}
 use Rattle.search.specs.declared.Stop.TheVariants.{Refused}

@@ -10,7 +10,7 @@ use lib.Ieee.{Float}
 use borrow.Author.Tests.{eq-eqb, eqb-true}
 use Rattle.lists.specs.Lists.{Tells}
 use Rattle.lists.proofs.Tests.{both, and-true, tells, le-tells}
-use Rattle.plan.specs.Causes.{unless, ◌orElse◌, Check, fails, passes, Passed}
+use Rattle.plan.specs.Causes.{unless, ◌or_else◌, Check, fails, passes, Passed}
 use Rattle.plan.proofs.Causes.{check-last, check-held}
 use Rattle.survey.specs.declared.Strip.{Strip}
 use Rattle.survey.specs.Strips.{sound_strip}

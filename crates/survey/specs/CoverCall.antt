@@ -2,7 +2,7 @@
 -- contents, and the number kept is returned."
 use Rattle.std.specs.Prelude.{List, ◌++◌, ◌&&◌, ℕ, ◌*◌, ◌%◌, eqb, leb, ℤ, length, drop, Float}
 use Rattle.lists.specs.Lists.{keep}
-use Rattle.plan.specs.Causes.{unless, ◌orElse◌, on_cause}
+use Rattle.plan.specs.Causes.{unless, ◌or_else◌, on_cause}
 use Rattle.plan.specs.Limits.{most_size}
 use Rattle.survey.specs.declared.Corners.{Corners}
 use Rattle.survey.specs.declared.Strip.{Strip}

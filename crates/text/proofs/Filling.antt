@@ -11,7 +11,7 @@ use lib.Signed.{non_neg}
 use lib.ListN.{length, drop}
 use borrow.Author.Tests.{le-leb, lt-leb}
 use Rattle.lists.proofs.Tests.{clash}
-use Rattle.plan.specs.Causes.{unless, ◌orElse◌}
+use Rattle.plan.specs.Causes.{unless, ◌or_else◌}
 use Rattle.line.specs.declared.Line.{Line}
 use Rattle.line.specs.declared.Line.TheVariants.{Plan, Layer, Rectangle}
 use Rattle.text.specs.declared.Tally.{Tally}

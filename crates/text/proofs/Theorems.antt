@@ -19,7 +19,7 @@ use Rattle.geometry.specs.Theorems.{Ranged}
 use Rattle.geometry.proofs.Integers.{zarith}
 use Rattle.geometry.proofs.Rectangles.{ranged}
 use Rattle.plan.specs.declared.Shape.{Shape}
-use Rattle.plan.specs.Causes.{unless, ◌orElse◌, Check, fails, passes, Passed}
+use Rattle.plan.specs.Causes.{unless, ◌or_else◌, Check, fails, passes, Passed}
 use Rattle.plan.specs.Plan.{plan_cause, Sound}
 use Rattle.plan.specs.Theorems.{PlanChecks}
 use Rattle.plan.proofs.Plan.{checked, unless-zero}

@@ -1,7 +1,7 @@
 -- What the writer answers (01, "Causes and their numbers", 1 to 4 and 12; 02, Q-4, 17).
 use Rattle.std.specs.Prelude.{List, ◌++◌, ℕ, leb, ℤ, length, drop}
 use Rattle.plan.specs.declared.Shape.{Shape}
-use Rattle.plan.specs.Causes.{unless, ◌orElse◌, on_cause}
+use Rattle.plan.specs.Causes.{unless, ◌or_else◌, on_cause}
 use Rattle.plan.specs.Plan.{plan_cause}
 use Rattle.text.specs.declared.Writing.{Writing}
 use Rattle.text.specs.declared.Writing.TheVariants.{Written, Refused}

@@ -4,7 +4,7 @@ use Rattle.std.specs.Prelude.{List, cond, ◌&&◌, ℕ, ℤ}
 use Rattle.std.proofs.Math.Option.{Option, none, some}
 use Rattle.lists.specs.Lists.{sum}
 use Rattle.plan.specs.declared.Shape.{Shape}
-use Rattle.plan.specs.Causes.{unless, ◌orElse◌, on_cause}
+use Rattle.plan.specs.Causes.{unless, ◌or_else◌, on_cause}
 use Rattle.plan.specs.Plan.{sizes_of, layers, plan_cause}
 use Rattle.rows.specs.RowCall.{is_row}
 use Rattle.windows.specs.declared.HoursAnswer.{HoursAnswer}

@@ -4,7 +4,7 @@ use Rattle.std.proofs.Math.Option.{Option, none, some}
 use Rattle.std.specs.Int.Signed.{le_z}
 use Rattle.geometry.specs.declared.Rect.{Rect}
 use Rattle.geometry.specs.Rectangles.{in_range, most_margin}
-use Rattle.plan.specs.Causes.{unless, ◌orElse◌}
+use Rattle.plan.specs.Causes.{unless, ◌or_else◌}
 use Rattle.plan.specs.Limits.{most_size}
 use Rattle.text.specs.declared.Tally.{Tally}
 use Rattle.line.specs.declared.Line.{Line}
