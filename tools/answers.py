@@ -1,0 +1,342 @@
+#!/usr/bin/env python3
+"""Turns proof files that close a function need by need (Proof.antt over Tie) into Invariants.antt and Answers.antt.
+
+usage: tools/answers.py NAMES CRATE [FUNCTION..]
+
+NAMES is the names.json that `rt check --generated DIR --old-names` writes for the crate, CRATE its folder below crates/. Each proofs/F/Proof.antt that is read
+is replaced by the two files; one that has a form that is not known (a section, a recursion) stays, with a line `left:`. A need that is answered by
+`search rules` or `omega arith` alone gets no answer, since the check tries these itself.
+"""
+import json
+import os
+import re
+import sys
+
+SEP = r"\s(){}.;,@\"«»\[\]\\"
+TOKEN = re.compile(rf"[^{SEP}]+")
+TRIVIAL = {"search rules", "omega arith", "search (rules)"}
+
+
+def norm(name):
+    return re.sub(r"[-_·]", "", re.sub(r"^(overflow|nonzero)[-_]", "", name)).lower()
+
+
+def blocks(text):
+    """Top-level declarations, each with the comments above it."""
+    out, now = [], []
+    for line in text.split("\n"):
+        starts = line and not line[0].isspace()
+        if starts and line.startswith("--"):
+            if now and not all(l.startswith("--") for l in now):
+                out.append(now)
+                now = []
+            now.append(line)
+        elif starts and re.match(r"(use|module|mutual) ", line):
+            if now:
+                out.append(now)
+            now = [line]
+        elif starts and re.match(r"(?:abbrev |pub |unfoldable |data |record )*([^\s:]+) :", line):
+            if now and not all(l.startswith("--") for l in now):
+                out.append(now)
+                now = []
+            now.append(line)
+        else:
+            now.append(line)
+    if now:
+        out.append(now)
+    return ["\n".join(b).rstrip() for b in out if "\n".join(b).strip()]
+
+
+def clauses_of(src, fn):
+    """The names of the `requires` of a function, in their order; [] for none or one."""
+    m = re.search(rf"\bfn {re.escape(fn)}\b[^;{{]*?\)(.*?)\n\{{\n", src, re.S)
+    if not m:
+        return []
+    names = re.findall(r"(?m)^\s*requires (\w+) \{", m[1])
+    return names
+
+
+def by_position(names):
+    """`.1.0` and the like for each of several clauses."""
+    out = {}
+    for i, n in enumerate(names):
+        last = i == len(names) - 1
+        out[n] = ".1" * i + ("" if last and i else ".0")
+    return out
+
+
+def lib_text(crate):
+    text = ""
+    for top, _, fs in os.walk(f"crates/{crate}/src"):
+        for f in fs:
+            if f.endswith(".rt"):
+                text += open(os.path.join(top, f), encoding="utf-8").read() + "\n"
+    return text
+
+
+def convert(path, crate, names, all_src):
+    rel = os.path.relpath(os.path.dirname(path), f"crates/{crate}/proofs")
+    module = rel.replace("/", ".")
+    key = f"Rattle-{crate}-proofs.{module}.Lts"
+    if key not in names:
+        return f"no {key} in the list of names"
+    it = names[key]
+    text = open(path, encoding="utf-8").read()
+    if re.search(r"(?m)^(module|mutual) ", text):
+        return "a section"
+    fn = rel.split("/")[-1]
+    src_file = f"crates/{crate}/src/" + ("/".join(rel.split("/")[:-1]) + ".rt" if "/" in rel else "")
+    src = all_src
+    if "/" in rel and os.path.exists(src_file):
+        src = open(src_file, encoding="utf-8").read()
+    own = clauses_of(src, fn)
+    labels = {}
+    for p in it["places"]:
+        if p[2][0]:
+            labels[norm(p[2][0])] = p[2][1]
+    for (old, new), _ in it["loops"]:
+        labels[norm(old)] = new
+    needs = {norm(a): b for a, b in it["needs"]}
+    loops = {norm(l[0][0]): (l[0][1], l[1], ch) for l, ch in zip(it["loops"], it["changed"])}
+    # what several clauses of a callee are called, by label
+    callee = {}
+    for p, cl in zip(it["places"], it["clauses"]):
+        if cl and p[2][1]:
+            callee[p[2][1]] = cl
+
+    head, uses, inv, dec, need, helper, order = [], [], {}, {}, [], {}, []
+    problems = []
+    for b in blocks(text):
+        body = "\n".join(l for l in b.split("\n") if not l.startswith("--")).strip()
+        if not body:
+            head.append(b)
+            continue
+        if body.startswith("use "):
+            comment = [l for l in b.split("\n") if l.startswith("--")]
+            head += comment
+            uses += [l for l in body.split("\n") if l.startswith("use ")]
+            continue
+        m = re.match(r"(?:abbrev |pub |unfoldable )*([^\s:]+) :\s*(.*)", body, re.S)
+        if not m:
+            return "a block that is not known: " + body[:60]
+        name, rest = m[1], m[2]
+        t = re.match(r"tie\.(invariant|decreases)-(\S+)\s*\n(.*)", rest, re.S)
+        if t:
+            (inv if t[1] == "invariant" else dec)[t[2]] = (name, t[3], b)
+            continue
+        t = re.match(r"tie\.Need-(\S+)((?: \S+)*)[ ]*\n(.*)", rest, re.S)
+        if t:
+            need.append((name, t[1], t[3], b))
+            continue
+        if re.search(r"tie\.close", body):
+            continue
+        if re.match(r"\S*(invariant|decreases)", name) and "tie." in rest:
+            return "an invariant of a form that is not known"
+        helper[name] = b
+        order.append(name)
+
+    def strip_args(s):
+        return re.sub(r"tie\.([A-Za-z][^\s()]*)((?: (?:invariant|decreases)-[^\s()]+| Inv\S*| μ\S*)*)", r"tie.\1", s)
+
+    def fix(expr, roots):
+        """The text of an answer, with places flattened. roots: names that stand for the record."""
+        e = strip_args(expr)
+        e = re.sub(r"(?:\.before)+(?![\w-])", "", e)
+        changed = True
+        roots = set(roots)
+        while changed:
+            changed = False
+            m = re.search(r"let (\S+) : tie\.\S+ = (?:search rules|assumption rules|search \(rules\)) in\s*", e)
+            if m:
+                roots.add(m[1])
+                e = e[: m.start()] + e[m.end() :]
+                changed = True
+                continue
+            for m in re.finditer(r"let (\S+)(?: : tie\.\S+)? = \(?([^\s.()]+)\)? in\s*", e):
+                if m[2] in roots or m[2] == "c":
+                    roots.add(m[1])
+                    e = e[: m.start()] + e[m.end() :]
+                    changed = True
+                    break
+        for r in roots - {"c"}:
+            e = re.sub(rf"(?<![^{SEP}])(?<!\.){re.escape(r)}(?![^{SEP}])", "c", e)
+        # let a = c.args in: stays
+        def chain(m):
+            parts = m[0].split(".")
+            out = ["c"]
+            i = 1
+            while i < len(parts):
+                p = parts[i]
+                if i == 1 and p == "pre":
+                    p = "requires"
+                if i == 1 and norm(p) in labels and p not in ("args", "requires", "ranges"):
+                    p = labels[norm(p)]
+                    out.append(p)
+                    if p in callee and i + 2 < len(parts) and parts[i + 1] == "ensures":
+                        pos = by_position(callee[p]) if isinstance(callee[p], list) else {}
+                        restp = "." + ".".join(parts[i + 2 :])
+                        for n, q in sorted(pos.items(), key=lambda x: -len(x[1])):
+                            if restp == q or restp.startswith(q + "."):
+                                out += ["ensures", n] + [x for x in restp[len(q) :].split(".") if x]
+                                return ".".join(out)
+                    i += 1
+                    continue
+                if i == 1 and p == "requires" and len(own) > 1:
+                    restp = "." + ".".join(parts[2:])
+                    hit = False
+                    for n, q in sorted(by_position(own).items(), key=lambda x: -len(x[1])):
+                        if restp == q or restp.startswith(q + "."):
+                            out += ["requires", n] + [x for x in restp[len(q) :].split(".") if x]
+                            hit = True
+                            break
+                    if hit:
+                        return ".".join(out)
+                p = {"left": "false", "taken": "true", "inv": "invariant", "type-inv": "type_inv", "ok": "type_inv"}.get(p, p) if i == 2 else p
+                out.append(p)
+                i += 1
+            return ".".join(out)
+
+        e = re.sub(rf"(?<![^{SEP}])(?<!\.)c(?:\.[^{SEP}]+)+", chain, e)
+        return e
+
+    helpers = {}
+    lemmas = []
+    for name in order:
+        b = helper[name]
+        body = "\n".join(l for l in b.split("\n") if not l.startswith("--")).strip()
+        if "tie." not in body:
+            lemmas.append(b)
+            continue
+        m = re.match(r"(?:abbrev |pub )*(\S+) : \((\S+) : tie\.[^()]*\)\s*→\s*(.*?)\n(unfolding [^\n]*\n)?(\S+) (\S+)((?: [^\s=]+)*) =\s*(.*)\Z", body, re.S)
+        if not m or m[1] != m[5] or "\n" + name + " " in m[8]:
+            problems.append(f"helper {name}")
+            lemmas.append(b)
+            continue
+        typ = fix(m[3], {m[2]})
+        bod = fix(m[8], {m[6]})
+        if m[2] != "c":
+            typ = re.sub(rf"(?<![^{SEP}])(?<!\.){re.escape(m[2])}(?![^{SEP}])", "c", typ)
+        args = m[7].split()
+        helpers[name] = (typ, args, bod, (m[4] or "").strip())
+
+    def with_helpers(e):
+        """The helpers that an answer uses, bound in front of it."""
+        used, unf = [], []
+
+        def visit(n):
+            if n in used:
+                return
+            for k in helpers:
+                if k != n and re.search(rf"(?<![^{SEP}]){re.escape(k)}(?![^{SEP}])", helpers[n][2] + " " + helpers[n][0]):
+                    visit(k)
+            used.append(n)
+            if helpers[n][3]:
+                unf.append(helpers[n][3])
+
+        for k in helpers:
+            if re.search(rf"(?<![^{SEP}]){re.escape(k)}(?![^{SEP}])", e):
+                visit(k)
+
+        def calls(s):
+            for k in helpers:
+                s = re.sub(rf"\(({re.escape(k)}) c\)(?=[.\s)]|$)", r"\1", s)
+                s = re.sub(rf"(?<![^{SEP}]){re.escape(k)} c(?![^{SEP}]|\.)", k, s)
+                s = re.sub(rf"(?<![^{SEP}]){re.escape(k)} \(c\)", k, s)
+            return s
+
+        front = []
+        for k in used:
+            typ, args, bod, _ = helpers[k]
+            lam = f"λ {' '.join(args)}. " if args else ""
+            front.append(f"let {k} : {calls(' '.join(typ.split()))} = {lam}{calls(bod)} in")
+        return front, calls(e), unf
+
+    own_use = [u for u in uses if not re.search(r"\.(Statement|Tie)\b", u)]
+    where = f"Rattle.{crate}.proofs.{module}"
+    # ---- invariants
+    inv_out = []
+    for old, (name, rest, b) in list(inv.items()) + list(dec.items()):
+        kind = "invariant" if old in inv and inv[old][0] == name else "decreases"
+        if norm(old) not in loops:
+            return f"a loop {old} that is not known"
+        new, variables, changed = loops[norm(old)]
+        m = re.match(r"(?:unfolding [^\n]*\n)?\S+((?: [^\s=]+)*) =\s*(.*)\Z", rest, re.S)
+        if not m:
+            return f"an invariant that is not known: {name}"
+        args = m[1].split()
+        expect = [("", v) for v, ch in zip(variables, changed) if not ch] + [("initial.", v) for v, ch in zip(variables, changed) if ch] + [("", v) for v, ch in zip(variables, changed) if ch]
+        if len(args) != len(expect):
+            return f"{name} has {len(args)} arguments, not {len(expect)}: {variables} {changed}"
+        to = {a: f"l.{p}{v}" for a, (p, v) in zip(args, expect)}
+        body = re.sub(rf"(?<![^{SEP}])(?<!\.)[^{SEP}]+", lambda x: to.get(x[0], x[0]), m[2])
+        comment = "\n".join(l for l in b.split("\n") if l.startswith("--"))
+        inv_out.append((comment + "\n" if comment else "") + f"abbrev pub {kind}-{new} : goal.{kind}-{new}\n{kind}-{new} l = {body.strip()}")
+    # ---- answers
+    out, seen = [], set()
+    skipped = []
+    for i, (name, old, rest, b) in enumerate(need):
+        new = needs.get(norm(old))
+        if new is None:
+            skipped.append(old)
+            continue
+        if new in seen:
+            continue
+        seen.add(new)
+        m = re.match(r"((?:unfolding [^\n]*\n)?)\S+((?: [^\s=]+)*) =\s*(.*)\Z", rest, re.S)
+        if not m:
+            return f"an answer that is not known: {name}"
+        args = m[2].split()
+        roots = {args[0]} if args else {"c"}
+        e = fix(m[3], roots)
+        if args and args[0] != "c":
+            e = re.sub(rf"(?<![^{SEP}])(?<!\.){re.escape(args[0])}(?![^{SEP}])", "c", e)
+        front, e, unf = with_helpers(e)
+        if " ".join(e.split()) in TRIVIAL and not m[1]:
+            continue
+        u = [x[len("unfolding ") :] for x in unf] + ([m[1].strip()[len("unfolding ") :]] if m[1] else [])
+        line = "unfolding " + " ".join(dict.fromkeys(" ".join(u).split())) + "\n" if u else ""
+        comment = "\n".join(l for l in b.split("\n") if l.startswith("--"))
+        sep = "\n    " if front or "\n" in e else " "
+        text_e = ("\n    ".join(front + [""])).rstrip(" ") if front else ""
+        if front:
+            e2 = text_e + "    " + e.strip() if not text_e.endswith("\n    ") else text_e + e.strip()
+            e2 = "\n    ".join(front) + "\n    " + e.strip()
+        else:
+            e2 = e.strip()
+        out.append((comment + "\n" if comment else "") + f"pub {new} : goal.{new}\n{line}{new} c ={sep}{e2}")
+    folder = os.path.dirname(path)
+    header = "\n".join(h for h in head if h.strip())
+    header = (header + "\n") if header else ""
+    left = [f"left: {path}: {p}" for p in problems]
+    if inv_out:
+        with open(os.path.join(folder, "Invariants.antt"), "w", encoding="utf-8") as f:
+            f.write(header + "\n".join(own_use + [f"use {where}.Given as goal"]) + "\n\n" + "\n\n".join(inv_out) + "\n")
+    if out:
+        body = "\n\n".join(lemmas + out)
+        with open(os.path.join(folder, "Answers.antt"), "w", encoding="utf-8") as f:
+            f.write(("" if inv_out else header) + "\n".join(own_use + [f"use {where}.Goals as goal"]) + "\n\n" + body + "\n")
+    os.remove(path)
+    if not inv_out and not out and not os.listdir(folder):
+        os.rmdir(folder)
+    if skipped:
+        left.append(f"gone: {path}: {' '.join(skipped)}")
+    return "\n".join(left) or None
+
+
+def main():
+    names = json.load(open(sys.argv[1], encoding="utf-8"))
+    crate = sys.argv[2]
+    only = set(sys.argv[3:])
+    all_src = lib_text(crate)
+    for top, folders, files in os.walk(f"crates/{crate}/proofs"):
+        folders.sort()
+        if "Proof.antt" in files:
+            p = os.path.join(top, "Proof.antt")
+            if only and os.path.basename(top) not in only:
+                continue
+            said = convert(p, crate, names, all_src)
+            if said:
+                print(said if said.startswith(("left:", "gone:")) else f"left: {p}: {said}")
+
+
+main()
