@@ -33,7 +33,7 @@ use Rattle.line.specs.Lines.{LAYER, spell_to, short_line}
 use Rattle.line.specs.Theorems.{Starts}
 use Rattle.line.proofs.Theorems.{starts, started, old-line}
 use Rattle.text.specs.Spelling.{spell, inner, all_inner, headed, all_short}
-use Rattle.text.specs.Parsing.{linesOf}
+use Rattle.text.specs.Parsing.{lines_of}
 use Rattle.text.specs.Plans.{layer_lines, plan_lines, text_of, layer_sizes, layer_margins, cells_in, shape_in, rects_agree, well_counted, agrees}
 use Rattle.text.specs.Reader.{lines_cause, read_cause, text_shape, text_cells, read_answer, cells_after}
 use Rattle.text.specs.Theorems.{Others, layer, rect, Formed, PlanText, RoundTrip}
@@ -47,7 +47,7 @@ use Rattle.text.proofs.Plans.{plan-shape, plan-cells, plan-agrees, plan-short, p
 
 -- ---- the text of a sound plan
 module _ (s : Shape) (plan : List ℤ) (sound : Sound s plan) where
-  lines-back : linesOf (text_of s plan) ≡ some (plan_lines s plan)
+  lines-back : lines_of (text_of s plan) ≡ some (plan_lines s plan)
   unfolding text_of
   lines-back = lines-of-spelling (plan_lines s plan) (plan-headed s plan sound) (plan-short s plan sound)
 
@@ -103,9 +103,9 @@ pub record OfPlan (room : ℕ) (t : List ℕ) : Type 0 where
 
 pub of-plan : (room : ℕ) (t : List ℕ) → read_cause room t ≡ 0 → OfPlan room t
 unfolding read_cause text_shape text_cells text_of
-of-plan room t e = go (linesOf t) refl e
+of-plan room t e = go (lines_of t) refl e
   where
-    fits : (ls : List Line) (a b : Bool) → agrees ls ≡ a → leb (length (cells_in ls)) room ≡ b → linesOf t ≡ some ls → ◌≡◌ {A = ℕ} (unless a 10 or_else unless b 11) 0 → OfPlan room t
+    fits : (ls : List Line) (a b : Bool) → agrees ls ≡ a → leb (length (cells_in ls)) room ≡ b → lines_of t ≡ some ls → ◌≡◌ {A = ℕ} (unless a 10 or_else unless b 11) 0 → OfPlan room t
     fits ls false b x y q z = absurd (omega arith)
     fits ls true false x y q z = absurd (omega arith)
     fits ls true true x y q z =
@@ -116,7 +116,7 @@ of-plan room t e = go (linesOf t) refl e
           fits = rw q (leb-true (length (cells_in ls)) room y);
         }
 
-    go : (o : Option (List Line)) → linesOf t ≡ o → lines_cause room o ≡ 0 → OfPlan room t
+    go : (o : Option (List Line)) → lines_of t ≡ o → lines_cause room o ≡ 0 → OfPlan room t
     go none q z = absurd (omega arith)
     go (some ls) q z = fits ls (agrees ls) (leb (length (cells_in ls)) room) refl refl q z
 
@@ -161,8 +161,8 @@ module _ (t : List ℕ) (f : Formed t) where
       let s = started f.first in
       record { text = s.1 ∙ ap (spell_to (Plan f.k)) b.text; first = b.inner; few = and-true (short f.k) (all_short f.others) s.0 b.few }
 
-  lines-of : linesOf t ≡ some lines
-  lines-of = ap linesOf spelled.text ∙ lines-of-spelling lines spelled.first spelled.few
+  lines-of : lines_of t ≡ some lines
+  lines-of = ap lines_of spelled.text ∙ lines-of-spelling lines spelled.first spelled.few
 
 -- ---- the causes
 -- the text of a plan has at most the cause 11
@@ -178,19 +178,19 @@ module _ (room : ℕ) (t : List ℕ) where
 
   pub read-causes : Check 9 (Formed t) (Check 10 (PlanText t) (Check 11 ((p : PlanText t) → length p.plan ≤ room) Passed)) (read_cause room t)
   unfolding read_cause text_of
-  read-causes = go (linesOf t) refl
+  read-causes = go (lines_of t) refl
     where
-      some-lines : (ls : List Line) (a : Bool) → agrees ls ≡ a → linesOf t ≡ some ls → Check 10 (PlanText t) (Check 11 ((p : PlanText t) → length p.plan ≤ room) Passed) (read_cause room t)
+      some-lines : (ls : List Line) (a : Bool) → agrees ls ≡ a → lines_of t ≡ some ls → Check 10 (PlanText t) (Check 11 ((p : PlanText t) → length p.plan ≤ room) Passed) (read_cause room t)
       some-lines ls true x q =
           let p : PlanText t = record { shape = shape_in ls; plan = cells_in ls; sound = agrees-sound ls x; text = (spelling-of-lines t ls q).text ∙ ap spell (headed-lines ls x) } in
           passes p (fitting p (leb (length p.plan) room) refl)
       some-lines ls false x q =
           fails (rw (q, x)) (λ p.
-          let l : linesOf t ≡ some (plan_lines p.shape p.plan) = ap linesOf p.text ∙ lines-back p.shape p.plan p.sound in
+          let l : lines_of t ≡ some (plan_lines p.shape p.plan) = ap lines_of p.text ∙ lines-back p.shape p.plan p.sound in
           let e : ls ≡ plan_lines p.shape p.plan = some-injective ls (plan_lines p.shape p.plan) (sym q ∙ l) in
           clash (plan-agrees p.shape p.plan p.sound) (ap agrees (sym e) ∙ x))
 
-      go : (o : Option (List Line)) → linesOf t ≡ o → Check 9 (Formed t) (Check 10 (PlanText t) (Check 11 ((p : PlanText t) → length p.plan ≤ room) Passed)) (read_cause room t)
+      go : (o : Option (List Line)) → lines_of t ≡ o → Check 9 (Formed t) (Check 10 (PlanText t) (Check 11 ((p : PlanText t) → length p.plan ≤ room) Passed)) (read_cause room t)
       go none q = fails (rw q) (λ f. none-ne-some _ (sym q ∙ lines-of t f))
       go (some ls) q =
           let s = spelling-of-lines t ls q in
@@ -206,7 +206,7 @@ module _ (room : ℕ) (t : List ℕ) where
 
 -- ---- LAYER lines
 old : (room : ℕ) (t : List ℕ) → Formed t → (a : List ℕ) (n : ℤ) (rest : List ℕ) → Spells a n → read_cause room (t ++ (LAYER ++ (a ++ 10 ∷ rest))) ≡ 9
-unfolding read_cause linesOf
+unfolding read_cause lines_of
 old room t f a n rest p =
     let s = spelled t f in
     let after : List ℕ = LAYER ++ (a ++ 10 ∷ rest) in
