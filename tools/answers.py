@@ -47,6 +47,77 @@ def blocks(text):
     return ["\n".join(b).rstrip() for b in out if "\n".join(b).strip()]
 
 
+def split_tuple(s):
+    """The parts of `(a, b)`; None for anything else."""
+    s = s.strip()
+    if not s.startswith("(") or not s.endswith(")"):
+        return None
+    depth, parts, now = 0, [], ""
+    for i, ch in enumerate(s):
+        if ch in "([{":
+            depth += 1
+            if depth == 1:
+                continue
+        if ch in ")]}":
+            depth -= 1
+            if depth == 0:
+                if i != len(s) - 1:
+                    return None
+                break
+        if ch == "," and depth == 1:
+            parts.append(now)
+            now = ""
+        else:
+            now += ch
+    if now.strip():
+        parts.append(now)
+    return [p.strip() for p in parts] if len(parts) > 1 else None
+
+
+def behind_lets(s):
+    """What stands before and behind the `let .. in` at the front."""
+    at, depth, lets, end = 0, 0, 0, 0
+    for m in re.finditer(r"[()\[\]{}]|(?<![^\s()])(?:let|in)(?![^\s()])", s):
+        x = m[0]
+        if x in "([{":
+            depth += 1
+        elif x in ")]}":
+            depth -= 1
+        elif depth == 0 and x == "let":
+            if lets == 0 and s[end : m.start()].strip():
+                break
+            lets += 1
+        elif depth == 0 and x == "in" and lets:
+            lets -= 1
+            if lets == 0:
+                end = m.end()
+    return s[:end], s[end:]
+
+
+def as_record(e, names):
+    front, rest = behind_lets(e)
+    parts, now = [], rest
+    for _ in names[1:]:
+        p = split_tuple(now)
+        if not p:
+            return e
+        if len(p) > 2 and len(p) == len(names) - len(parts):
+            parts += p
+            now = None
+            break
+        if len(p) != 2:
+            return e
+        parts.append(p[0])
+        now = p[1]
+    if now is not None:
+        parts.append(now)
+    if len(parts) != len(names):
+        return e
+    pad = " " if not front else ("\n    " if "\n" in front else " ")
+    inner = ";\n".join(f"      {n} = {p}" for n, p in zip(names, parts))
+    return front + pad.strip(" ") + (" " if front and pad == " " else "") + "record {\n" + inner + ";\n    }"
+
+
 def clauses_of(src, fn):
     """The names of the `requires` of a function, in their order; [] for none or one."""
     m = re.search(rf"\bfn {re.escape(fn)}\b[^;{{]*?\)(.*?)\n\{{\n", src, re.S)
@@ -89,7 +160,7 @@ def convert(path, crate, names, all_src):
     src = all_src
     if "/" in rel and os.path.exists(src_file):
         src = open(src_file, encoding="utf-8").read()
-    own = clauses_of(src, fn)
+    own = it["pre"]["fields"] if it["pre"] and it["pre"].get("fields") else clauses_of(src, fn)
     labels = {}
     for p in it["places"]:
         if p[2][0]:
@@ -97,6 +168,9 @@ def convert(path, crate, names, all_src):
     for (old, new), _ in it["loops"]:
         labels[norm(old)] = new
     needs = {norm(a): b for a, b in it["needs"]}
+    asked = {k: v for k, v in it["asked"].items() if v and len(v) > 1}
+    fields = {p[2][1]: dict(p[4]) for p in it["places"] if p[4]}
+    params = {p[2][1]: it["params"].get(p[3], []) for p in it["places"] if p[3]}
     loops = {norm(l[0][0]): (l[0][1], l[1], ch) for l, ch in zip(it["loops"], it["changed"])}
     # what several clauses of a callee are called, by label
     callee = {}
@@ -140,7 +214,7 @@ def convert(path, crate, names, all_src):
 
     def fix(expr, roots):
         """The text of an answer, with places flattened. roots: names that stand for the record."""
-        e = strip_args(expr)
+        e = plain(re.sub(r"(?:\.before)+(?![\w-])", "", plain(strip_args(expr))))
         e = re.sub(r"(?:\.before)+(?![\w-])", "", e)
         changed = True
         roots = set(roots)
@@ -191,7 +265,20 @@ def convert(path, crate, names, all_src):
                             break
                     if hit:
                         return ".".join(out)
-                p = {"left": "false", "taken": "true", "inv": "invariant", "type-inv": "type_inv", "ok": "type_inv"}.get(p, p) if i == 2 else p
+                if i == 2:
+                    p = {"left": "false", "taken": "true", "inv": "invariant", "type-inv": "type_inv", "ok": "type_inv", "last": "new", "kept": "auto"}.get(p, p)
+                    p = fields.get(out[1], {}).get(p, p)
+                    if p in ("new", "auto") and out[1] in params:
+                        n = 0
+                        while i + 1 + n < len(parts) and parts[i + 1 + n] == "1":
+                            n += 1
+                        # the last of several stands at the end of the nest or before it
+                        end = i + 1 + n
+                        if end < len(parts) and parts[end] == "0":
+                            end += 1
+                        if n < len(params[out[1]]) and end > i + 1:
+                            out += [p, params[out[1]][n]] + parts[end:]
+                            return ".".join(out)
                 out.append(p)
                 i += 1
             return ".".join(out)
@@ -201,12 +288,27 @@ def convert(path, crate, names, all_src):
 
     helpers = {}
     lemmas = []
+    same = set()
+    for name in list(order):
+        body = "\n".join(l for l in helper[name].split("\n") if not l.startswith("--")).strip()
+        body = strip_args(body)
+        if re.match(rf"(?:abbrev |pub )*(\S+) : tie\.\S+ → tie\.\S+\n\S+ (\S+) = \2(?:\.before)*\Z", body):
+            same.add(name)
+            order.remove(name)
+
+    def plain(s):
+        for k in same:
+            s = re.sub(rf"\({re.escape(k)} ([^{SEP}]+(?:\.before)*)\)", r"\1", s)
+            s = re.sub(rf"(?<![^{SEP}]){re.escape(k)} (?=[^{SEP}])", "", s)
+        return s
+
     for name in order:
         b = helper[name]
         body = "\n".join(l for l in b.split("\n") if not l.startswith("--")).strip()
         if "tie." not in body:
             lemmas.append(b)
             continue
+        body = re.sub(r"\A((?:abbrev |pub )*\S+) : (tie\.\S+) → ", r"\1 : (no-name : \2) → ", strip_args(body))
         m = re.match(r"(?:abbrev |pub )*(\S+) : \((\S+) : tie\.[^()]*\)\s*→\s*(.*?)\n(unfolding [^\n]*\n)?(\S+) (\S+)((?: [^\s=]+)*) =\s*(.*)\Z", body, re.S)
         if not m or m[1] != m[5] or "\n" + name + " " in m[8]:
             problems.append(f"helper {name}")
@@ -264,18 +366,24 @@ def convert(path, crate, names, all_src):
         if not m:
             return f"an invariant that is not known: {name}"
         args = m[1].split()
-        expect = [("", v) for v, ch in zip(variables, changed) if not ch] + [("initial.", v) for v, ch in zip(variables, changed) if ch] + [("", v) for v, ch in zip(variables, changed) if ch]
+        expect = [("initial." if ch else "", v) for v, ch in zip(variables, changed)] + [("", v) for v, ch in zip(variables, changed) if ch]
+        still = [v for v, ch in zip(variables, changed) if not ch]
         if len(args) != len(expect):
             return f"{name} has {len(args)} arguments, not {len(expect)}: {variables} {changed}"
+        bits = fields.get(new, {})
         to = {a: f"l.{p}{v}" for a, (p, v) in zip(args, expect)}
+        still += list(bits)
         body = re.sub(rf"(?<![^{SEP}])(?<!\.)[^{SEP}]+", lambda x: to.get(x[0], x[0]), m[2])
+        for v in still:
+            body = re.sub(rf"\(to_z w\d+ l\.{re.escape(v)}\)", f"l.{v}", body)
+            body = re.sub(rf"to_z w\d+ l\.{re.escape(v)}(?![^{SEP}])", f"l.{v}", body)
         comment = "\n".join(l for l in b.split("\n") if l.startswith("--"))
         inv_out.append((comment + "\n" if comment else "") + f"abbrev pub {kind}-{new} : goal.{kind}-{new}\n{kind}-{new} l = {body.strip()}")
     # ---- answers
     out, seen = [], set()
     skipped = []
     for i, (name, old, rest, b) in enumerate(need):
-        new = needs.get(norm(old))
+        new = needs.get(norm(name)) or needs.get(norm(old))
         if new is None:
             skipped.append(old)
             continue
@@ -291,6 +399,9 @@ def convert(path, crate, names, all_src):
         if args and args[0] != "c":
             e = re.sub(rf"(?<![^{SEP}])(?<!\.){re.escape(args[0])}(?![^{SEP}])", "c", e)
         front, e, unf = with_helpers(e)
+        names_of = asked.get(new) or asked.get(old) or asked.get(name)
+        if names_of:
+            e = as_record(e, names_of)
         if " ".join(e.split()) in TRIVIAL and not m[1]:
             continue
         u = [x[len("unfolding ") :] for x in unf] + ([m[1].strip()[len("unfolding ") :]] if m[1] else [])
