@@ -168,7 +168,8 @@ def convert(path, crate, names, all_src):
     for (old, new), _ in it["loops"]:
         labels[norm(old)] = new
     needs = {norm(a): b for a, b in it["needs"]}
-    asked = {k: v for k, v in it["asked"].items() if v and len(v) > 1}
+    asked = {norm(k): v for k, v in it["asked"].items() if v and len(v) > 1}
+    renamed = dict(x.split(" ") and (tuple(x.split(" ")), y.split(" ")) for x, y in it["args"] if len(x.split(" ")) == 2)
     fields = {p[2][1]: dict(p[4]) for p in it["places"] if p[4]}
     params = {p[2][1]: it["params"].get(p[3], []) for p in it["places"] if p[3]}
     loops = {norm(l[0][0]): (l[0][1], l[1], ch) for l, ch in zip(it["loops"], it["changed"])}
@@ -237,6 +238,8 @@ def convert(path, crate, names, all_src):
         # let a = c.args in: stays
         def chain(m):
             parts = m[0].split(".")
+            if len(parts) > 2 and ("." + parts[1], "." + parts[2]) in renamed:
+                parts[2] = renamed["." + parts[1], "." + parts[2]][1][1:]
             out = ["c"]
             i = 1
             while i < len(parts):
@@ -284,6 +287,9 @@ def convert(path, crate, names, all_src):
             return ".".join(out)
 
         e = re.sub(rf"(?<![^{SEP}])(?<!\.)c(?:\.[^{SEP}]+)+", chain, e)
+        # the test of `!x` says what it says of x
+        e = re.sub(rf"not-(?:true|false) _ (c\.[^{SEP}]+\.(?:true|false))(?![^{SEP}])", r"\1", e)
+        e = re.sub(r"\((c\.\S+\.(?:true|false))\)", r"\1", e)
         return e
 
     helpers = {}
@@ -309,17 +315,17 @@ def convert(path, crate, names, all_src):
             lemmas.append(b)
             continue
         body = re.sub(r"\A((?:abbrev |pub )*\S+) : (tie\.\S+) → ", r"\1 : (no-name : \2) → ", strip_args(body))
-        m = re.match(r"(?:abbrev |pub )*(\S+) : \((\S+) : tie\.[^()]*\)\s*→\s*(.*?)\n(unfolding [^\n]*\n)?(\S+) (\S+)((?: [^\s=]+)*) =\s*(.*)\Z", body, re.S)
-        if not m or m[1] != m[5] or "\n" + name + " " in m[8]:
+        m = re.match(r"(?:abbrev |pub )*(\S+) : \((\S+) : tie\.[^()]*\)((?: [({][^(){}]*[)}])*)\s*→\s*(.*?)\n(unfolding [^\n]*\n)?(\S+) (\S+)((?: [^\s=]+)*) =\s*(.*)\Z", body, re.S)
+        if not m or m[1] != m[6] or "\n" + name + " " in m[9]:
             problems.append(f"helper {name}")
             lemmas.append(b)
             continue
-        typ = fix(m[3], {m[2]})
-        bod = fix(m[8], {m[6]})
+        typ = fix((m[3].strip() + " → " if m[3] else "") + m[4], {m[2]})
+        bod = fix(m[9], {m[7]})
         if m[2] != "c":
             typ = re.sub(rf"(?<![^{SEP}])(?<!\.){re.escape(m[2])}(?![^{SEP}])", "c", typ)
-        args = m[7].split()
-        helpers[name] = (typ, args, bod, (m[4] or "").strip())
+        args = m[8].split()
+        helpers[name] = (typ, args, bod, (m[5] or "").strip())
 
     def with_helpers(e):
         """The helpers that an answer uses, bound in front of it."""
@@ -399,7 +405,7 @@ def convert(path, crate, names, all_src):
         if args and args[0] != "c":
             e = re.sub(rf"(?<![^{SEP}])(?<!\.){re.escape(args[0])}(?![^{SEP}])", "c", e)
         front, e, unf = with_helpers(e)
-        names_of = asked.get(new) or asked.get(old) or asked.get(name)
+        names_of = asked.get(norm(new)) or asked.get(norm(old)) or asked.get(norm(name))
         if names_of:
             e = as_record(e, names_of)
         if " ".join(e.split()) in TRIVIAL and not m[1]:
