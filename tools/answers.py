@@ -94,8 +94,21 @@ def behind_lets(s):
     return s[:end], s[end:]
 
 
-def as_record(e, names):
+def as_record(e, names, lemmas=()):
     front, rest = behind_lets(e)
+    if not split_tuple(rest) and " ".join(rest.split()) not in TRIVIAL:
+        m = re.match(rf"\s*([^{SEP}]+) (\(.*\)|[^{SEP}]+(?:\.[^{SEP}]+)*)\s*\Z", rest, re.S)
+        for b in lemmas:
+            d = re.search(rf"(?m)^{re.escape(m[1])} (\S+) = (\(.*\))\s*\Z", b, re.S) if m else None
+            if d:
+                rest = re.sub(rf"(?<![^{SEP}]){re.escape(d[1])}(?![^{SEP}])", lambda x: m[2], d[2])
+                break
+        else:
+            parts = []
+            for i in range(len(names)):
+                parts.append(f"({rest.strip()})" + "".join(".1" for _ in range(i)) + (".0" if i < len(names) - 1 else ""))
+            inner = ";\n".join(f"      {n} = {p}" for n, p in zip(names, parts))
+            return front + ("\n    " if front else "") + "record {\n" + inner + ";\n    }"
     parts, now = [], rest
     for _ in names[1:]:
         p = split_tuple(now)
@@ -127,6 +140,40 @@ def clauses_of(src, fn):
     return names
 
 
+def flat(text):
+    """A section over one place as declarations that take it."""
+
+    def turn(m):
+        var, place, body = m[1], m[2], m[3]
+        lines = [l[2:] if l.startswith("  ") else l for l in body.split("\n")]
+        inner = "\n".join(lines)
+        names = re.findall(r"(?m)^(?:abbrev |pub )*([^\s:]+) : ", inner)
+        out, current = [], None
+        for l in lines:
+            d = re.match(r"((?:abbrev |pub )*)([^\s:]+) : (.*)", l)
+            if d and not l.startswith("--"):
+                current = d[2]
+                l = f"{d[1]}{d[2]} : ({var} : {place}) → {d[3]}"
+                head, tail = l.split(" → ", 1)
+                for n in names:
+                    tail = re.sub(rf"(?<![^{SEP}])(?<!\.){re.escape(n)}(?![^{SEP}])", f"({n} {var})", tail)
+                l = head + " → " + tail
+            elif current and re.match(rf"{re.escape(current)}(?= |$)", l):
+                args, _, tail = l[len(current) :].partition("=")
+                for n in names:
+                    tail = re.sub(rf"(?<![^{SEP}])(?<!\.){re.escape(n)}(?![^{SEP}])", f"({n} {var})", tail)
+                l = f"{current} {var}{args}={tail}"
+            elif current and not l.startswith(("--", "unfolding")):
+                for n in names:
+                    l = re.sub(rf"(?<![^{SEP}])(?<!\.){re.escape(n)}(?![^{SEP}])", f"({n} {var})", l)
+            out.append(l)
+        return "\n".join(out)
+
+    text = re.sub(r"(?m)^module _ \((\S+) : (tie\.[^()]*)\) where\n((?:(?:  .*)?\n)+)", turn, text + "\n")
+    # (start c).x of a place that is the same
+    return re.sub(r"(?m)^((?:abbrev |pub )*\S+) : \(\S+ : (tie\.[^()]*)\) → (tie\.\S+[^\n→]*)$", r"\1 : \2 → \3", text)
+
+
 def by_position(names):
     """`.1.0` and the like for each of several clauses."""
     out = {}
@@ -152,7 +199,7 @@ def convert(path, crate, names, all_src):
     if key not in names:
         return f"no {key} in the list of names"
     it = names[key]
-    text = open(path, encoding="utf-8").read()
+    text = flat(open(path, encoding="utf-8").read())
     if re.search(r"(?m)^(module|mutual) ", text):
         return "a section"
     fn = rel.split("/")[-1]
@@ -171,6 +218,12 @@ def convert(path, crate, names, all_src):
     asked = {norm(k): v for k, v in it["asked"].items() if v and len(v) > 1}
     renamed = dict(x.split(" ") and (tuple(x.split(" ")), y.split(" ")) for x, y in it["args"] if len(x.split(" ")) == 2)
     fields = {p[2][1]: dict(p[4]) for p in it["places"] if p[4]}
+    arms = {}
+    for a in it["arms"]:
+        if a:
+            for field, label, steps in a[2]:
+                if steps:
+                    arms[norm(label), tuple(steps)] = (a[0], field)
     params = {p[2][1]: it["params"].get(p[3], []) for p in it["places"] if p[3]}
     loops = {norm(l[0][0]): (l[0][1], l[1], ch) for l, ch in zip(it["loops"], it["changed"])}
     # what several clauses of a callee are called, by label
@@ -235,13 +288,24 @@ def convert(path, crate, names, all_src):
                     break
         for r in roots - {"c"}:
             e = re.sub(rf"(?<![^{SEP}])(?<!\.){re.escape(r)}(?![^{SEP}])", "c", e)
-        # let a = c.args in: stays
+        # a name for a path is written out, so that the path's new names are found
+        while True:
+            m = re.search(rf"let ([^{SEP}]+) = (c(?:\.[^{SEP}]+)+) in\s*", e)
+            if not m:
+                break
+            e = e[: m.start()] + re.sub(rf"(?<![^{SEP}])(?<!\.){re.escape(m[1])}(?![^{SEP}])", lambda x: m[2], e[m.end() :])
         def chain(m):
             parts = m[0].split(".")
             if len(parts) > 2 and ("." + parts[1], "." + parts[2]) in renamed:
                 parts[2] = renamed["." + parts[1], "." + parts[2]][1][1:]
             out = ["c"]
             i = 1
+            if len(parts) > 1 and parts[1] == "fits":
+                parts[1] = "ranges"
+            for k in range(len(parts), 2, -1):
+                hit = arms.get((norm(parts[1]), tuple(parts[2:k])))
+                if hit:
+                    return ".".join(["c", *hit, *parts[k:]])
             while i < len(parts):
                 p = parts[i]
                 if i == 1 and p == "pre":
@@ -298,7 +362,7 @@ def convert(path, crate, names, all_src):
     for name in list(order):
         body = "\n".join(l for l in helper[name].split("\n") if not l.startswith("--")).strip()
         body = strip_args(body)
-        if re.match(rf"(?:abbrev |pub )*(\S+) : tie\.\S+ → tie\.\S+\n\S+ (\S+) = \2(?:\.before)*\Z", body):
+        if re.match(rf"(?:abbrev |pub )*(\S+) : tie\.\S+ → tie\.\S+\n\S+ (\S+) = (?:\2(?:\.before)*|search rules)\Z", body):
             same.add(name)
             order.remove(name)
 
@@ -405,13 +469,14 @@ def convert(path, crate, names, all_src):
         if args and args[0] != "c":
             e = re.sub(rf"(?<![^{SEP}])(?<!\.){re.escape(args[0])}(?![^{SEP}])", "c", e)
         front, e, unf = with_helpers(e)
-        names_of = asked.get(norm(new)) or asked.get(norm(old)) or asked.get(norm(name))
+        names_of = asked.get(norm(name)) or asked.get(norm(old)) or asked.get(norm(new))
         if names_of:
-            e = as_record(e, names_of)
+            e = as_record(e, names_of, lemmas)
         if " ".join(e.split()) in TRIVIAL and not m[1]:
             continue
         u = [x[len("unfolding ") :] for x in unf] + ([m[1].strip()[len("unfolding ") :]] if m[1] else [])
-        line = "unfolding " + " ".join(dict.fromkeys(" ".join(u).split())) + "\n" if u else ""
+        u = [x for x in dict.fromkeys(" ".join(u).split()) if x not in same and x not in helpers]
+        line = "unfolding " + " ".join(u) + "\n" if u else ""
         comment = "\n".join(l for l in b.split("\n") if l.startswith("--"))
         sep = "\n    " if front or "\n" in e else " "
         text_e = ("\n    ".join(front + [""])).rstrip(" ") if front else ""
