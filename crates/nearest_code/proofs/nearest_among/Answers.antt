@@ -10,6 +10,7 @@ use Rattle.nearest.specs.Nearest.{squared_gap, nearest_to}
 use Rattle.nearest.specs.inner.Parts.{Within}
 use Rattle.nearest.proofs.Answers.{near_none, Found, found_first, found-step}
 use Rattle.nearest_code.proofs.nearest_among.Goals as goal
+use Rattle.nearest_code.proofs.nearest_among.Goals.{then-gap-least, else-gap-least}
 
 pub nothing_near-requires : goal.nothing_near-requires
 nothing_near-requires c = tt
@@ -44,7 +45,7 @@ pub loop-p-preserved : goal.loop-p-preserved
 loop-p-preserved c =
     let a = c.args in
     let w : Within c.loop-p.least (squared_gap a.around (rect_at a.cells.now c.loop-p.p)) c.gap_within-gap.result = subst (λ (z : Rect). Within c.loop-p.least (squared_gap a.around z) c.gap_within-gap.result) c.rect_at-in-loop-p.ensures c.gap_within-gap.ensures in
-    found-step a.around (rect_at a.cells.now) a.size _ _ _ c.loop-p.invariant c.loop-p-test.true _ w _ _ (⊎_elim (λ t. inl (t.0.taken, t.1, t.2)) (λ t. inr (t.0.left, t.1, t.2)) c.if-gap-least.branch)
+    found-step a.around (rect_at a.cells.now) a.size _ _ _ c.loop-p.invariant c.loop-p-test.true _ w _ _ (elim c.if-gap-least.branch [ then-gap-least w ↦ inl (w.if-gap-least.true, w.least-is, w.place-is) | else-gap-least w ↦ inr (w.if-gap-least.false, w.least-is, w.place-is) ])
 
 pub overflow_cast-result : goal.overflow_cast-result
 overflow_cast-result c = let i = c.loop-p.invariant in omega (arith, i, i.within, c.requires.part.small)

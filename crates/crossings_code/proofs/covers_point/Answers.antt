@@ -6,20 +6,13 @@ use lib.Signed.{le_z}
 use mir.Facts.{to_z-of_z}
 use Rattle.geometry.proofs.Machine.{Fitting}
 use Rattle.crossings.specs.Crossings.{covers}
-use Rattle.crossings_code.proofs.covers_point.Statement.{statement}
-use Rattle.crossings_code.proofs.covers_point.Tie as tie
+use Rattle.crossings_code.proofs.covers_point.Goals as goal
 
-fits-r : (c : tie.Start) → Fitting c.args.r
-fits-r c = search rules
-
-returns : tie.Need-returns
+pub returns : goal.returns
 unfolding covers
 returns c =
-    let s = c.before.before.before.before.before.before.before.before in
-    let f = fits-r s in
-    let x = to_z-of_z s.ranges.x in
-    let y = to_z-of_z s.ranges.y in
+    let fits-r : Fitting c.args.r = search rules in
+    let f = fits-r in
+    let x = to_z-of_z c.ranges.x in
+    let y = to_z-of_z c.ranges.y in
     ap₂ ◌&&◌ (ap₂ ◌&&◌ (ap₂ ◌&&◌ (ap₂ le_z (to_z-of_z f.left) x) (ap₂ le_z x (to_z-of_z f.right))) (ap₂ le_z (to_z-of_z f.bottom) y)) (ap₂ le_z y (to_z-of_z f.top))
-
-pub covers-point-spec : {M : Type 1} → statement M
-covers-point-spec = tie.close (tie.spec returns)

@@ -1,0 +1,54 @@
+-- `crossings_code::crossing_cause`: the plan's causes, then 15 and 16.
+use mathlib.Core.Path.{◌≡◌, sym, ◌∙◌}
+use mathlib.Core.Bool.{true, false}
+use Rattle.plan.specs.Plan.{plan_cause, Typed, Sound}
+use Prim.Native.Nat.{◌≤◌}
+use native.Mathlib.Omega.{arith}
+use borrow.Author.Tests.{not-true, not-false}
+use Rattle.plan.proofs.Plan.{checked}
+use Rattle.plan.proofs.Growing.{drawn-framed}
+use Rattle.crossings.proofs.Answers.{cause-plan, cause-layers, cause-margins, cause-segments}
+use borrow.Author.Rules.{rules}
+use Rattle.crossings_code.proofs.crossing_cause.Goals as goal
+
+pub returns-then-cause-ne0 : goal.returns-then-cause-ne0
+returns-then-cause-ne0 c = cause-plan _ _ _ c.plan_cause-cause.ensures c.if-cause-ne0.true
+
+pub returns-then-shape-lt3 : goal.returns-then-shape-lt3
+returns-then-shape-lt3 c =
+    let sound : plan_cause c.args.shape c.args.cells.now ≡ 0 = sym c.plan_cause-cause.ensures ∙ c.if-cause-ne0.false in
+    cause-layers _ _ sound c.if-shape-lt3.true
+
+pub is_unwidened-requires : goal.is_unwidened-requires
+is_unwidened-requires c =
+    let typed : Typed c.args.shape = record { sizes = search rules; margins = search rules } in
+    let sound : plan_cause c.args.shape c.args.cells.now ≡ 0 = sym c.plan_cause-cause.ensures ∙ c.if-cause-ne0.false in
+    let whole : Sound c.args.shape c.args.cells.now = record { typed = typed; passed = sound } in
+    let three : 3 ≤ c.args.shape.k = c.if-shape-lt3.false in
+    let w = whole in
+    (three, omega (arith, w.typed.margins, (checked _ _ w).high))
+
+pub returns-then-not-is_unwidened : goal.returns-then-not-is_unwidened
+returns-then-not-is_unwidened c =
+    let sound : plan_cause c.args.shape c.args.cells.now ≡ 0 = sym c.plan_cause-cause.ensures ∙ c.if-cause-ne0.false in
+    let three : 3 ≤ c.args.shape.k = c.if-shape-lt3.false in
+    cause-margins _ _ sound three (sym c.if-not-is_unwidened.true ∙ c.is_unwidened.ensures)
+
+pub is_segmented-requires : goal.is_segmented-requires
+is_segmented-requires c =
+    let typed : Typed c.args.shape = record { sizes = search rules; margins = search rules } in
+    let sound : plan_cause c.args.shape c.args.cells.now ≡ 0 = sym c.plan_cause-cause.ensures ∙ c.if-cause-ne0.false in
+    let whole : Sound c.args.shape c.args.cells.now = record { typed = typed; passed = sound } in
+    drawn-framed _ _ whole
+
+pub returns-then-is_segmented : goal.returns-then-is_segmented
+returns-then-is_segmented c =
+    let sound : plan_cause c.args.shape c.args.cells.now ≡ 0 = sym c.plan_cause-cause.ensures ∙ c.if-cause-ne0.false in
+    let three : 3 ≤ c.args.shape.k = c.if-shape-lt3.false in
+    cause-segments _ _ sound three (sym (not-false _ c.if-not-is_unwidened.false-raw) ∙ c.is_unwidened.ensures) true (sym c.if-is_segmented.true ∙ c.is_segmented.ensures)
+
+pub returns-else-is_segmented : goal.returns-else-is_segmented
+returns-else-is_segmented c =
+    let sound : plan_cause c.args.shape c.args.cells.now ≡ 0 = sym c.plan_cause-cause.ensures ∙ c.if-cause-ne0.false in
+    let three : 3 ≤ c.args.shape.k = c.if-shape-lt3.false in
+    cause-segments _ _ sound three (sym (not-false _ c.if-not-is_unwidened.false-raw) ∙ c.is_unwidened.ensures) false (sym c.if-is_segmented.false ∙ c.is_segmented.ensures)
