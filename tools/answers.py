@@ -104,8 +104,8 @@ def as_record(e, names, lemmas=()):
                 rest = re.sub(rf"(?<![^{SEP}]){re.escape(d[1])}(?![^{SEP}])", lambda x: m[2], d[2])
                 break
         else:
-            parts = []
-            for i in range(len(names)):
+            parts = [rest.strip()] * len(names) if rest.strip().startswith("absurd ") else []
+            for i in range(0 if parts else len(names)):
                 parts.append(f"({rest.strip()})" + "".join(".1" for _ in range(i)) + (".0" if i < len(names) - 1 else ""))
             inner = ";\n".join(f"      {n} = {p}" for n, p in zip(names, parts))
             return front + ("\n    " if front else "") + "record {\n" + inner + ";\n    }"
@@ -122,8 +122,15 @@ def as_record(e, names, lemmas=()):
             return e
         parts.append(p[0])
         now = p[1]
+        if not split_tuple(now):
+            break
     if now is not None:
-        parts.append(now)
+        more = len(names) - len(parts)
+        if more == 1:
+            parts.append(now)
+        else:
+            for i in range(more):
+                parts.append(now.strip() + ".1" * i + (".0" if i < more - 1 else ""))
     if len(parts) != len(names):
         return e
     pad = " " if not front else ("\n    " if "\n" in front else " ")
@@ -229,8 +236,8 @@ def convert(path, crate, names, all_src):
     # what several clauses of a callee are called, by label
     callee = {}
     for p, cl in zip(it["places"], it["clauses"]):
-        if cl and p[2][1]:
-            callee[p[2][1]] = cl
+        if cl and p[2][1] and len(cl.get("fields") or []) > 1:
+            callee[p[2][1]] = cl["fields"]
 
     head, uses, inv, dec, need, helper, order = [], [], {}, {}, [], {}, []
     problems = []
@@ -399,14 +406,14 @@ def convert(path, crate, names, all_src):
             if n in used:
                 return
             for k in helpers:
-                if k != n and re.search(rf"(?<![^{SEP}]){re.escape(k)}(?![^{SEP}])", helpers[n][2] + " " + helpers[n][0]):
+                if k != n and re.search(rf"(?<![^{SEP}])(?<!\.){re.escape(k)}(?![^{SEP}])", helpers[n][2] + " " + helpers[n][0]):
                     visit(k)
             used.append(n)
             if helpers[n][3]:
                 unf.append(helpers[n][3])
 
         for k in helpers:
-            if re.search(rf"(?<![^{SEP}]){re.escape(k)}(?![^{SEP}])", e):
+            if re.search(rf"(?<![^{SEP}])(?<!\.){re.escape(k)}(?![^{SEP}])", e):
                 visit(k)
 
         def calls(s):
@@ -471,7 +478,7 @@ def convert(path, crate, names, all_src):
         front, e, unf = with_helpers(e)
         names_of = asked.get(norm(name)) or asked.get(norm(old)) or asked.get(norm(new))
         if names_of:
-            e = as_record(e, names_of, lemmas)
+            e = fix(as_record(e, names_of, lemmas), {"c"})
         if " ".join(e.split()) in TRIVIAL and not m[1]:
             continue
         u = [x[len("unfolding ") :] for x in unf] + ([m[1].strip()[len("unfolding ") :]] if m[1] else [])

@@ -25,39 +25,39 @@ row_minutes-w-requires c =
     let typed : Typed c.args.shape = record { sizes = search rules; margins = search rules } in
     let passed : hours_cause (some c.args.hours.now) c.args.shape c.args.cells.now ≡ 0 = sym c.hours_cause-cause.ensures ∙ c.if-cause-ne0.false in
     record {
-      le_k = (row_reads _ _ _ _ passed _ _ (sym c.in-Row.is ∙ c.row.ensures.0) typed).0;
-      row_value = (row_reads _ _ _ _ passed _ _ (sym c.in-Row.is ∙ c.row.ensures.0) typed).1.0;
-      sizes_in_bounds = (row_reads _ _ _ _ passed _ _ (sym c.in-Row.is ∙ c.row.ensures.0) typed).1.1;
+      le_k = (row_reads _ _ _ _ passed _ _ (sym c.in-Row.is ∙ c.row.ensures.answer) typed).0;
+      row_value = (row_reads _ _ _ _ passed _ _ (sym c.in-Row.is ∙ c.row.ensures.answer) typed).1.0;
+      sizes_in_bounds = (row_reads _ _ _ _ passed _ _ (sym c.in-Row.is ∙ c.row.ensures.answer) typed).1.1;
     }
 
 pub returns-in-Refused : goal.returns-in-Refused
 returns-in-Refused c =
     let passed : hours_cause (some c.args.hours.now) c.args.shape c.args.cells.now ≡ 0 = sym c.hours_cause-cause.ensures ∙ c.if-cause-ne0.false in
     record {
-      answer = (absurd (never-refused _ _ _ _ passed _ (sym c.in-Refused.is ∙ c.row.ensures.0))).0;
-      values = (absurd (never-refused _ _ _ _ passed _ (sym c.in-Refused.is ∙ c.row.ensures.0))).1;
+      answer = absurd (never-refused _ _ _ _ passed _ (sym c.in-Refused.is ∙ c.row.ensures.answer));
+      values = absurd (never-refused _ _ _ _ passed _ (sym c.in-Refused.is ∙ c.row.ensures.answer));
     }
 
 pub returns-in-NoRow : goal.returns-in-NoRow
 returns-in-NoRow c =
     let passed : hours_cause (some c.args.hours.now) c.args.shape c.args.cells.now ≡ 0 = sym c.hours_cause-cause.ensures ∙ c.if-cause-ne0.false in
     record {
-      answer = (no_row _ _ _ _ passed (sym c.in-NoRow.is ∙ c.row.ensures.0));
-      values = ap hours_values (no_row _ _ _ _ passed (sym c.in-NoRow.is ∙ c.row.ensures.0));
+      answer = (no_row _ _ _ _ passed (sym c.in-NoRow.is ∙ c.row.ensures.answer));
+      values = ap hours_values (no_row _ _ _ _ passed (sym c.in-NoRow.is ∙ c.row.ensures.answer));
     }
 
 pub returns-then-is_open : goal.returns-then-is_open
 returns-then-is_open c =
     let passed : hours_cause (some c.args.hours.now) c.args.shape c.args.cells.now ≡ 0 = sym c.hours_cause-cause.ensures ∙ c.if-cause-ne0.false in
     record {
-      answer = (row_told _ _ _ _ passed _ _ (sym c.in-Row.is ∙ c.row.ensures.0) _ c.row_minutes-w.ensures true (sym c.if-is_open.true ∙ c.is_open.ensures));
-      values = ap hours_values (row_told _ _ _ _ passed _ _ (sym c.in-Row.is ∙ c.row.ensures.0) _ c.row_minutes-w.ensures true (sym c.if-is_open.true ∙ c.is_open.ensures));
+      answer = (row_told _ _ _ _ passed _ _ (sym c.in-Row.is ∙ c.row.ensures.answer) _ c.row_minutes-w.ensures true (sym c.if-is_open.true ∙ c.is_open.ensures));
+      values = ap hours_values (row_told _ _ _ _ passed _ _ (sym c.in-Row.is ∙ c.row.ensures.answer) _ c.row_minutes-w.ensures true (sym c.if-is_open.true ∙ c.is_open.ensures));
     }
 
 pub returns-else-is_open : goal.returns-else-is_open
 returns-else-is_open c =
     let passed : hours_cause (some c.args.hours.now) c.args.shape c.args.cells.now ≡ 0 = sym c.hours_cause-cause.ensures ∙ c.if-cause-ne0.false in
     record {
-      answer = (row_told _ _ _ _ passed _ _ (sym c.in-Row.is ∙ c.row.ensures.0) _ c.row_minutes-w.ensures false (sym c.if-is_open.false ∙ c.is_open.ensures));
-      values = ap hours_values (row_told _ _ _ _ passed _ _ (sym c.in-Row.is ∙ c.row.ensures.0) _ c.row_minutes-w.ensures false (sym c.if-is_open.false ∙ c.is_open.ensures));
+      answer = (row_told _ _ _ _ passed _ _ (sym c.in-Row.is ∙ c.row.ensures.answer) _ c.row_minutes-w.ensures false (sym c.if-is_open.false ∙ c.is_open.ensures));
+      values = ap hours_values (row_told _ _ _ _ passed _ _ (sym c.in-Row.is ∙ c.row.ensures.answer) _ c.row_minutes-w.ensures false (sym c.if-is_open.false ∙ c.is_open.ensures));
     }

@@ -9,4 +9,9 @@ pub slice_bounds-minutes_in-end : goal.slice_bounds-minutes_in-end
 slice_bounds-minutes_in-end c = sym (length-take-le _ _ (omega arith))
 
 pub minutes_in-requires : goal.minutes_in-requires
-minutes_in-requires c = (omega (arith, length-take-le c.args.k c.args.sizes.now c.requires.le_k.1, c.requires.le_k.0), c.requires.1)
+minutes_in-requires c =
+    record {
+      in_bounds = omega (arith, length-take-le c.args.k c.args.sizes.now c.requires.le_k.1, c.requires.le_k.0);
+      row_value = c.requires.row_value;
+      sizes_in_bounds = c.requires.sizes_in_bounds;
+    }
