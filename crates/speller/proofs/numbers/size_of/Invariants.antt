@@ -1,0 +1,14 @@
+-- `size_of` compares with one power after the other. The loop's invariant: n reaches 10^c, and `next` is ten times that. The measure is what is left
+-- of eighteen steps.
+use mathlib.Core.Path.{◌≡◌}
+use Prim.Native.Nat.{ℕ, ◌+◌, ◌-◌, ◌^◌, ◌≤◌, max}
+use native.Mathlib.Omega.{arith}
+use Rattle.decimal.proofs.Powers.{next_fits, next-is}
+use Rattle.decimal.proofs.Numerals.{size_low, size-last}
+use Rattle.speller.proofs.numbers.size_of.Given as goal
+
+abbrev pub invariant-loop-c : goal.invariant-loop-c
+invariant-loop-c l = (l.c ≤ 18) × (l.next ≡ 10 ^ (l.c + 1)) × (10 ^ l.c ≤ max l.n 1)
+
+abbrev pub decreases-loop-c : goal.decreases-loop-c
+decreases-loop-c l = 18 - l.c

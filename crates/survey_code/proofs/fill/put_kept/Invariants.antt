@@ -1,0 +1,11 @@
+-- `survey_code::fill::put_kept`. The invariant: what is left to be put gives the whole.
+use Prim.Native.Nat.{◌-◌}
+use native.Mathlib.Omega.{arith}
+use Rattle.survey.proofs.Records.{Filling, filling-none, filling-fits, filling-more, filling-end}
+use Rattle.survey_code.proofs.fill.put_kept.Given as goal
+
+abbrev pub invariant-loop-i : goal.invariant-loop-i
+invariant-loop-i l = Filling l.corners l.across l.upward l.initial.cells l.cells l.at l.i
+
+abbrev pub decreases-loop-i : goal.decreases-loop-i
+decreases-loop-i l = l.n - l.i
