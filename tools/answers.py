@@ -297,7 +297,12 @@ def convert(path, crate, names, all_src):
             e = re.sub(rf"(?<![^{SEP}])(?<!\.){re.escape(r)}(?![^{SEP}])", "c", e)
         # a name for a path is written out, so that the path's new names are found
         while True:
-            m = re.search(rf"let ([^{SEP}]+) = (c(?:\.[^{SEP}]+)+) in\s*", e)
+            m = None
+            for x in re.finditer(rf"let ([^{SEP}]+) = (c(?:\.[^{SEP}]+)+) in\s*", e):
+                steps = x[2].split(".")[1:]
+                if len(steps) == 1 and steps[0] not in ("fits", "ranges"):
+                    m = x
+                    break
             if not m:
                 break
             e = e[: m.start()] + re.sub(rf"(?<![^{SEP}])(?<!\.){re.escape(m[1])}(?![^{SEP}])", lambda x: m[2], e[m.end() :])
@@ -339,7 +344,7 @@ def convert(path, crate, names, all_src):
                             break
                     if hit:
                         return ".".join(out)
-                if i == 2:
+                if i == 2 and out[1] not in ("args", "requires", "ranges"):
                     p = {"left": "false", "taken": "true", "inv": "invariant", "type-inv": "type_inv", "ok": "type_inv", "last": "new", "kept": "auto"}.get(p, p)
                     p = fields.get(out[1], {}).get(p, p)
                     if p in ("new", "auto") and out[1] in params:
