@@ -96,6 +96,11 @@ def behind_lets(s):
 
 def as_record(e, names, lemmas=()):
     front, rest = behind_lets(e)
+    tactic = re.match(rf"\s*(rw|simp) (\([^()]*(?:\([^()]*\)[^()]*)*\)|[^{SEP}]+(?:\.[^{SEP}]+)*) (\(.*\))\s*\Z", rest, re.S)
+    if tactic and split_tuple(tactic[3]) and len(split_tuple(tactic[3])) == len(names):
+        parts = [f"{tactic[1]} {tactic[2]} {x if x[0] == '(' else '(' + x + ')'}" for x in split_tuple(tactic[3])]
+        inner = ";\n".join(f"      {n} = {p}" for n, p in zip(names, parts))
+        return front + ("\n    " if "\n" in front else " " if front else "") + "record {\n" + inner + ";\n    }"
     if not split_tuple(rest) and " ".join(rest.split()) not in TRIVIAL:
         m = re.match(rf"\s*([^{SEP}]+) (\(.*\)|[^{SEP}]+(?:\.[^{SEP}]+)*)\s*\Z", rest, re.S)
         for b in lemmas:
@@ -133,9 +138,8 @@ def as_record(e, names, lemmas=()):
                 parts.append(now.strip() + ".1" * i + (".0" if i < more - 1 else ""))
     if len(parts) != len(names):
         return e
-    pad = " " if not front else ("\n    " if "\n" in front else " ")
     inner = ";\n".join(f"      {n} = {p}" for n, p in zip(names, parts))
-    return front + pad.strip(" ") + (" " if front and pad == " " else "") + "record {\n" + inner + ";\n    }"
+    return front + ("\n    " if "\n" in front else " " if front else "") + "record {\n" + inner + ";\n    }"
 
 
 def clauses_of(src, fn):
