@@ -2,7 +2,6 @@
 use mathlib.Core.Path.{sym, ap}
 use native.Mathlib.Omega.{arith}
 use lib.ListN.{get_or-eq_default}
-use borrow.Author.Rules.{rules}
 use Rattle.decimal.specs.inner.Bytes.{kind_of}
 use Rattle.lexer.proofs.numbers.kind_at.Goals as goal
 

@@ -1,10 +1,12 @@
 -- `kind_of` gives the kind of its byte.
 use mathlib.Core.Path.{sym}
-use mathlib.Core.Logic.{⊎_elim, inl, inr}
+use mathlib.Core.Logic.{◌⊎◌, inl, inr}
+use Prim.Native.Nat.{◌<◌}
 use native.Mathlib.Omega.{arith}
 use Rattle.decimal.specs.inner.Bytes.{kind_of}
 use Rattle.decimal.proofs.Bytes.{kind-digit, kind-other}
 use Rattle.lexer.proofs.numbers.kind_of.Goals as goal
+use Rattle.lexer.proofs.numbers.kind_of.Goals.{in_default-via-then-b-lt48, in_default-via-else-b-lt48+else-b-lt58}
 
 pub returns-in-48 : goal.returns-in-48
 unfolding kind_of
@@ -27,5 +29,5 @@ returns-in-10 c = rw c.in-10.is
 
 pub returns-in_default-b : goal.returns-in_default-b
 returns-in_default-b c =
-    let d = ⊎_elim (λ w. inl w.taken) (λ w. inr w.1.left) c.in_default.branch in
-    sym (kind-other c.args.b d c.in_default-b.rest.0.0.1 c.in_default-b.rest.0.1 c.in_default-b.rest.1)
+    let d : (c.args.b < 48) ⊎ (57 < c.args.b) = elim c.in_default.branch [ in_default-via-then-b-lt48 w ↦ inl (omega arith) | in_default-via-else-b-lt48+else-b-lt58 w ↦ inr (omega arith) ] in
+    sym (kind-other c.args.b d (λ e. omega arith) (λ e. omega arith) (λ e. omega arith))

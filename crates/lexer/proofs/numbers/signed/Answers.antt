@@ -4,7 +4,6 @@ use lib.IntN.{pos, ◌-ℤ◌}
 use mir.Syntax.{w32}
 use mir.Val.{SFits}
 use mir.Facts.{to_z-of_z, to_z_pos}
-use borrow.Author.Rules.{rules}
 use Rattle.decimal.proofs.Signs.{below-zero, below-fits}
 use Rattle.lexer.proofs.numbers.signed.Goals as goal
 

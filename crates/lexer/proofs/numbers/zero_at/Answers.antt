@@ -1,5 +1,4 @@
 -- `zero_at` tells 0 where no minus stands before it.
-use borrow.Author.Rules.{rules}
 use Rattle.lexer.proofs.numbers.zero_at.Goals as goal
 
 pub returns : goal.returns

@@ -5,7 +5,6 @@ use lib.ListN.{get_or}
 use mir.Syntax.{w32}
 use mir.Val.{SFits}
 use mir.Facts.{to_z-of_z}
-use borrow.Author.Rules.{rules}
 use Rattle.decimal.specs.declared.Kind.{Kind}
 use Rattle.decimal.specs.inner.Bytes.{kind_of}
 use Rattle.decimal.proofs.Signs.{short-fits}
@@ -16,21 +15,21 @@ use Rattle.lexer.proofs.parse.read_field.Goals as goal
 
 pub overflow_add-result : goal.overflow_add-result
 overflow_add-result c =
-    let tested : c.ends.result ≡ ends_by (kind_of (get_or c.args.s.now c.in-Value.next 0)) c.args.new = c.ends.ensures ∙ ap (λ (k : Kind). ends_by k c.args.new) c.kind_at.ensures in
-    omega (arith, ends-inside c.args.s.now c.in-Value.next c.args.new (sym tested ∙ c.if-ends.true))
+    let tested : c.ends.result ≡ ends_by (kind_of (get_or c.args.s.now c.in-Value.next 0)) c.args.last = c.ends.ensures ∙ ap (λ (k : Kind). ends_by k c.args.last) c.kind_at.ensures in
+    omega (arith, ends-inside c.args.s.now c.in-Value.next c.args.last (sym tested ∙ c.if-ends.true))
 
 pub returns-then-ends : goal.returns-then-ends
 returns-then-ends c =
     let found : Numbered-at c.args.s.now c.args.at c.in-Value.z c.in-Value.next = number-on c.args.s.now c.args.at c.in-Value.z c.in-Value.next (sym c.in-Value.is ∙ c.read_number.ensures) in
-    let tested : c.ends.result ≡ ends_by (kind_of (get_or c.args.s.now c.in-Value.next 0)) c.args.new = c.ends.ensures ∙ ap (λ (k : Kind). ends_by k c.args.new) c.kind_at.ensures in
+    let tested : c.ends.result ≡ ends_by (kind_of (get_or c.args.s.now c.in-Value.next 0)) c.args.last = c.ends.ensures ∙ ap (λ (k : Kind). ends_by k c.args.last) c.kind_at.ensures in
     let f : SFits w32 c.in-Value.z = short-fits c.in-Value.z found.few in
-    simp to_z-of_z (field-good c.args.s.now c.args.at c.args.new c.in-Value.z c.in-Value.next found (sym tested ∙ c.if-ends.true))
+    simp to_z-of_z (field-good c.args.s.now c.args.at c.args.last c.in-Value.z c.in-Value.next found (sym tested ∙ c.if-ends.true))
 
 pub returns-else-ends : goal.returns-else-ends
 returns-else-ends c =
     let found : Numbered-at c.args.s.now c.args.at c.in-Value.z c.in-Value.next = number-on c.args.s.now c.args.at c.in-Value.z c.in-Value.next (sym c.in-Value.is ∙ c.read_number.ensures) in
-    let tested : c.ends.result ≡ ends_by (kind_of (get_or c.args.s.now c.in-Value.next 0)) c.args.new = c.ends.ensures ∙ ap (λ (k : Kind). ends_by k c.args.new) c.kind_at.ensures in
-    field-other c.args.s.now c.args.at c.args.new c.in-Value.z c.in-Value.next found (sym tested ∙ c.if-ends.false)
+    let tested : c.ends.result ≡ ends_by (kind_of (get_or c.args.s.now c.in-Value.next 0)) c.args.last = c.ends.ensures ∙ ap (λ (k : Kind). ends_by k c.args.last) c.kind_at.ensures in
+    field-other c.args.s.now c.args.at c.args.last c.in-Value.z c.in-Value.next found (sym tested ∙ c.if-ends.false)
 
 pub returns-in-Bad : goal.returns-in-Bad
-returns-in-Bad c = field-none c.args.s.now c.args.at (end_of c.args.new) (sym c.in-Bad.is ∙ c.read_number.ensures)
+returns-in-Bad c = field-none c.args.s.now c.args.at (end_of c.args.last) (sym c.in-Bad.is ∙ c.read_number.ensures)

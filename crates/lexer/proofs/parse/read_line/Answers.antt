@@ -1,6 +1,5 @@
 -- `read_line` goes by the word that the line starts with.
 use mathlib.Core.Path.{sym, ◌∙◌}
-use borrow.Author.Rules.{rules}
 use Rattle.line.proofs.Places.{rect-at, layer-at, plan-at, no_word}
 use Rattle.lexer.proofs.parse.read_line.Goals as goal
 

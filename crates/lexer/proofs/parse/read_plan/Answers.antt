@@ -3,7 +3,6 @@ use mathlib.Core.Path.{sym, ◌∙◌}
 use mir.Syntax.{w32}
 use mir.Val.{SFits}
 use mir.Facts.{to_z-of_z}
-use borrow.Author.Rules.{rules}
 use Rattle.decimal.proofs.Signs.{short-fits}
 use Rattle.line.proofs.Places.{field-on, field-bad, plan-good, plan-bad}
 use Rattle.lexer.proofs.parse.read_plan.Goals as goal

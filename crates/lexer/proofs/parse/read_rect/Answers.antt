@@ -5,7 +5,6 @@ use mir.Val.{SFits}
 use mir.Facts.{to_z-of_z}
 use Rattle.decimal.proofs.Signs.{short-fits}
 use Rattle.line.proofs.Places.{field-on, field-bad, no-left, no-bottom, no-right, no_top, all-four}
-use borrow.Author.Rules.{rules}
 use Rattle.lexer.proofs.parse.read_rect.Goals as goal
 
 pub returns-in_default : goal.returns-in_default

@@ -1,10 +1,9 @@
 use mathlib.Core.Path.{◌≡◌, ap}
-use Prim.Native.Nat.{ℕ, ◌+◌, ◌-◌}
+use Prim.Native.Nat.{ℕ, ◌+◌}
 use native.Mathlib.Omega.{arith}
-use lib.ListN.{length, drop, length-drop}
-use borrow.Author.Rules.{rules}
+use lib.ListN.{drop, length-drop}
 use Rattle.line.specs.Places.{starts_with}
-use Rattle.line.proofs.Words.{too_short, Matching, differs, matches, all-match}
+use Rattle.line.proofs.Words.{too_short, differs, matches, all-match}
 use Rattle.lexer.proofs.parse.starts.Goals as goal
 
 pub returns-then-s-at : goal.returns-then-s-at
