@@ -5,7 +5,6 @@ use mir.Val.{SFits}
 use mir.Facts.{to_z-of_z}
 use mathlib.Core.Path.{◌≡◌}
 use lib.ListN.{length}
-use borrow.Author.Rules.{rules}
 use Rattle.decimal.specs.Numerals.{numeral}
 use Rattle.decimal.proofs.Numerals.{numeral-few}
 use Rattle.speller.proofs.measure.corner_size.Goals as goal

@@ -2,7 +2,6 @@
 use native.Mathlib.Omega.{arith}
 use Rattle.decimal.proofs.Numerals.{size-most}
 use Rattle.line.proofs.Lengths.{layer-length}
-use borrow.Author.Rules.{rules}
 use Rattle.speller.proofs.measure.layer_line_size.Goals as goal
 
 pub overflow_add-result : goal.overflow_add-result

@@ -8,7 +8,6 @@ use lib.ListN.{length}
 use mir.Syntax.{w32}
 use mir.Val.{SFits}
 use mir.Facts.{to_z-of_z}
-use borrow.Author.Rules.{rules}
 use Rattle.decimal.specs.Numerals.{size}
 use Rattle.decimal.proofs.Numerals.{length-decimal, size-most}
 use Rattle.decimal.proofs.Signs.{neg-numeral, pos-numeral}

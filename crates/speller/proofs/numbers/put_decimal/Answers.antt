@@ -1,45 +1,8 @@
-use mathlib.Core.Path.{◌≡◌, sym, ap, ◌∙◌}
-use mathlib.Core.List.{List}
-use Prim.Native.Nat.{ℕ, zero, suc, ◌+◌, ◌-◌, ◌/◌, ◌%◌, ◌^◌, ◌≤◌, ◌<◌}
-use native.Mathlib.Nat.{div-one}
+-- `put_decimal` stores a number's digits, the last one first.
 use native.Mathlib.Omega.{arith}
-use lib.ListN.{length, set}
-use lib.Seq.{sets, length-sets}
-use borrow.Author.Rules.{rules}
-use Rattle.decimal.specs.Numerals.{digits, size, decimal}
-use Rattle.lists.specs.inner.Stores.{Put}
-use Rattle.decimal.proofs.Powers.{tenfold}
 use Rattle.decimal.proofs.Numerals.{length-decimal}
-use Rattle.lists.proofs.Stores.{set_before}
+use Rattle.speller.proofs.Decimals.{long, none_yet, one_more, all-stored}
 use Rattle.speller.proofs.numbers.put_decimal.Goals as goal
-
-long : (first : List ℕ) (n end : ℕ) (buf : List ℕ) (i m : ℕ) → Stored first n end buf i m → length buf ≡ length first
-long first n end buf i m h = ap length h.is ∙ length-sets first i (digits (end - i) n)
-
-none_yet : (first : List ℕ) (n end : ℕ) → Stored first n end first end n
-none_yet first n end =
-    let z : end - end ≡ 0 = omega arith in
-    record { inside = omega arith; rest = rw z (sym (div-one n)); is = rw z }
-
-one_more : (first : List ℕ) (n end : ℕ) (buf : List ℕ) (i m : ℕ) → 0 < i → Stored first n end buf i m → Stored first n end (set buf (i - 1) (48 + m % 10)) (i - 1) (m / 10)
-one_more first n end buf zero m g h = absurd (omega arith)
-one_more first n end buf (suc j) m g h =
-    let d = end - suc j in
-    let i : suc j - 1 ≡ j = omega arith in
-    let z : end - j ≡ suc d = omega (arith, h.inside) in
-    rw i
-    (record {
-      inside = omega (arith, h.inside);
-      rest = rw (z, h.rest) (sym (tenfold n d));
-      is = rw (z, h.is, h.rest) (set_before (digits d n) first (suc j) j (48 + n / 10 ^ d % 10) (omega arith));
-    })
-
-all-stored : (first : List ℕ) (at n : ℕ) (buf : List ℕ) (i m : ℕ) → at ≤ i → i ≤ at → Stored first n (at + size 19 n) buf i m → Put first at (decimal n) buf (at + size 19 n)
-unfolding decimal
-all-stored first at n buf i m l g h =
-    let e : i ≡ at = omega arith in
-    let z : at + size 19 n - i ≡ size 19 n = omega arith in
-    record { place = ap (λ (k : ℕ). at + k) (sym (length-decimal n)); stored = h.is ∙ rw (z, e) }
 
 pub overflow_add-end : goal.overflow_add-end
 overflow_add-end c = omega (arith, c.size_of.ensures, length-decimal c.args.n)

@@ -1,12 +1,7 @@
 -- `put_word` copies a word. The loop's invariant: the bytes from i on are left to be put. The measure is how many they are.
-use mathlib.Core.Path.{◌≡◌}
-use mathlib.Core.List.{List}
-use Prim.Native.Nat.{ℕ, ◌+◌, ◌-◌, ◌≤◌, ◌<◌}
-use native.Mathlib.Omega.{arith}
-use lib.ListN.{length, get_or, set, drop, drop_of_length-le}
-use Rattle.lists.specs.inner.Stores.{Put}
-use Rattle.lists.proofs.Stores.{Left, left-all, left-byte, left-none}
-use Rattle.decimal.proofs.Places.{at_byte}
+use Prim.Native.Nat.{◌+◌, ◌-◌, ◌≤◌}
+use lib.ListN.{length, drop}
+use Rattle.lists.proofs.Stores.{Left}
 use Rattle.speller.proofs.numbers.put_word.Given as goal
 
 abbrev pub invariant-loop-i : goal.invariant-loop-i

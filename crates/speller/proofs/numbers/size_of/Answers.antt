@@ -1,5 +1,5 @@
 use mathlib.Core.Path.{◌≡◌}
-use Prim.Native.Nat.{ℕ, ◌+◌, ◌-◌, ◌^◌, ◌≤◌, max}
+use Prim.Native.Nat.{ℕ, ◌+◌, ◌^◌, ◌≤◌, max}
 use native.Mathlib.Omega.{arith}
 use Rattle.decimal.proofs.Powers.{next_fits, next-is}
 use Rattle.decimal.proofs.Numerals.{size_low, size-last}

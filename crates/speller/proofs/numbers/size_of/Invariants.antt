@@ -1,10 +1,7 @@
 -- `size_of` compares with one power after the other. The loop's invariant: n reaches 10^c, and `next` is ten times that. The measure is what is left
 -- of eighteen steps.
 use mathlib.Core.Path.{◌≡◌}
-use Prim.Native.Nat.{ℕ, ◌+◌, ◌-◌, ◌^◌, ◌≤◌, max}
-use native.Mathlib.Omega.{arith}
-use Rattle.decimal.proofs.Powers.{next_fits, next-is}
-use Rattle.decimal.proofs.Numerals.{size_low, size-last}
+use Prim.Native.Nat.{◌+◌, ◌-◌, ◌^◌, ◌≤◌, max}
 use Rattle.speller.proofs.numbers.size_of.Given as goal
 
 abbrev pub invariant-loop-c : goal.invariant-loop-c

@@ -3,7 +3,6 @@ use mir.Syntax.{w32}
 use mir.Val.{SFits}
 use mir.Facts.{to_z-of_z}
 use mathlib.Core.List.{[]}
-use borrow.Author.Rules.{rules}
 use Rattle.lists.proofs.Stores.{first-room, second-room, put_then}
 use Rattle.line.specs.Lines.{put_field}
 use Rattle.line.proofs.Fields.{field-joined}

@@ -3,7 +3,6 @@ use mathlib.Core.List.{[], ◌∷◌}
 use Prim.Native.Nat.{◌+◌, ◌≤◌}
 use native.Mathlib.Omega.{arith}
 use lib.ListN.{length}
-use borrow.Author.Rules.{rules}
 use Rattle.decimal.specs.Numerals.{decimal, numeral}
 use Rattle.lists.proofs.Stores.{put_one, first-room, second-room, put_then}
 use Rattle.line.proofs.Fields.{word-joined}

@@ -4,7 +4,6 @@ use native.Mathlib.Omega.{arith}
 use mir.Syntax.{w32}
 use mir.Val.{SFits}
 use mir.Facts.{to_z-of_z}
-use borrow.Author.Rules.{rules}
 use Rattle.decimal.specs.Numerals.{numeral}
 use Rattle.lists.proofs.Stores.{put_one, first-room, second-room, put_then}
 use Rattle.line.proofs.Fields.{word-joined}

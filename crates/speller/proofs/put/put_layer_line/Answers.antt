@@ -1,7 +1,6 @@
 -- `put_layer_line` puts the word and two numbers, one behind the other.
 use mathlib.Core.List.{[]}
 use lib.IntN.{pos}
-use borrow.Author.Rules.{rules}
 use Rattle.lists.proofs.Stores.{first-room, second-room, put_then}
 use Rattle.line.specs.Lines.{LAYER, put_field}
 use Rattle.line.proofs.Fields.{word-joined, field-joined}

@@ -1,7 +1,6 @@
 -- `put_plan_line` puts the word and the number behind it.
 use mathlib.Core.List.{[]}
 use lib.IntN.{pos}
-use borrow.Author.Rules.{rules}
 use Rattle.lists.proofs.Stores.{second-room, put_then}
 use Rattle.line.specs.Lines.{PLAN, put_field}
 use Rattle.line.proofs.Fields.{word-joined}

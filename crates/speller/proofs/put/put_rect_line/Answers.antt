@@ -18,8 +18,8 @@ put_corner-b-requires c =
     let f : SFits w32 c.args.r.left = fitting.left in
     let g : SFits w32 c.args.r.bottom = fitting.bottom in
     record {
-      x_value = (simp to_z-of_z ((h.0, h.1), first-room (corner-joined c.args.r.left c.args.r.bottom 9 (put_field c.args.r.right 9 (put_field c.args.r.top 10 []))) c.put_word-a.new.buf c.put_word-a.result (second-room (word-joined RECT (put_rect c.args.r [])) c.put_word-a.ensures c.requires.1))).0;
-      e_in_bounds = (simp to_z-of_z ((h.0, h.1), first-room (corner-joined c.args.r.left c.args.r.bottom 9 (put_field c.args.r.right 9 (put_field c.args.r.top 10 []))) c.put_word-a.new.buf c.put_word-a.result (second-room (word-joined RECT (put_rect c.args.r [])) c.put_word-a.ensures c.requires.1))).1;
+      x_value = simp to_z-of_z (h.0, h.1);
+      e_in_bounds = simp to_z-of_z (first-room (corner-joined c.args.r.left c.args.r.bottom 9 (put_field c.args.r.right 9 (put_field c.args.r.top 10 []))) c.put_word-a.new.buf c.put_word-a.result (second-room (word-joined RECT (put_rect c.args.r [])) c.put_word-a.ensures c.requires.1));
     }
 
 pub put_corner-requires : goal.put_corner-requires
@@ -31,8 +31,8 @@ put_corner-requires c =
     let k : SFits w32 c.args.r.right = fitting.right in
     let l : SFits w32 c.args.r.top = fitting.top in
     record {
-      x_value = (simp to_z-of_z ((h.2, h.3), second-room (corner-joined c.args.r.left c.args.r.bottom 9 (put_field c.args.r.right 9 (put_field c.args.r.top 10 []))) (simp to_z-of_z at c.put_corner-b.ensures) (second-room (word-joined RECT (put_rect c.args.r [])) c.put_word-a.ensures c.requires.1))).0;
-      e_in_bounds = (simp to_z-of_z ((h.2, h.3), second-room (corner-joined c.args.r.left c.args.r.bottom 9 (put_field c.args.r.right 9 (put_field c.args.r.top 10 []))) (simp to_z-of_z at c.put_corner-b.ensures) (second-room (word-joined RECT (put_rect c.args.r [])) c.put_word-a.ensures c.requires.1))).1;
+      x_value = simp to_z-of_z (h.2, h.3);
+      e_in_bounds = simp to_z-of_z (second-room (corner-joined c.args.r.left c.args.r.bottom 9 (put_field c.args.r.right 9 (put_field c.args.r.top 10 []))) (simp to_z-of_z at c.put_corner-b.ensures) (second-room (word-joined RECT (put_rect c.args.r [])) c.put_word-a.ensures c.requires.1));
     }
 
 pub returns : goal.returns
