@@ -17,6 +17,10 @@ TOKEN = re.compile(rf"[^{SEP}]+")
 TRIVIAL = {"search rules", "omega arith", "search (rules)"}
 
 
+def snake(name):
+    return re.sub(r"(?<=[a-z0-9])[A-Z]", lambda m: "_" + m[0].lower(), name)
+
+
 def norm(name):
     return re.sub(r"[-_·]", "", re.sub(r"^(overflow|nonzero)[-_]", "", name)).lower()
 
@@ -211,6 +215,8 @@ def convert(path, crate, names, all_src):
         return f"no {key} in the list of names"
     it = names[key]
     text = flat(open(path, encoding="utf-8").read())
+    for old in set(re.findall(r"(?m)^ *(?:abbrev |pub )*([a-z]\w*[a-z0-9][A-Z][\w-]*) : ", text)):
+        text = TOKEN.sub(lambda m: snake(m[0]) if m[0] == old else m[0], text)
     if re.search(r"(?m)^(module|mutual) ", text):
         return "a section"
     fn = rel.split("/")[-1]
@@ -459,7 +465,13 @@ def convert(path, crate, names, all_src):
         bits = fields.get(new, {})
         to = {a: f"l.{p}{v}" for a, (p, v) in zip(args, expect)}
         still += list(bits)
-        body = re.sub(rf"(?<![^{SEP}])(?<!\.)[^{SEP}]+", lambda x: to.get(x[0], x[0]), m[2])
+        # a variable that the invariant binds itself keeps its name
+        bound = set(" ".join(re.findall(r"λ ((?:[^\s().]+ )*[^\s().]+)\. ", m[2])).split())
+        text_of = m[2]
+        for x in bound & set(to):
+            text_of = re.sub(rf"(\(λ (?:[^\s().]+ )*){re.escape(x)}((?: [^\s().]+)*\. (?:[^()]|\((?:[^()]|\([^()]*\))*\))*\))",
+                             lambda y: re.sub(rf"(?<![^{SEP}])(?<!\.){re.escape(x)}(?![^{SEP}])", "bound-" + x, y[0]).replace(f"{x}.", f"bound-{x}.") if False else re.sub(rf"(?<![^{SEP}])(?<!\.){re.escape(x)}(?![^{SEP}])", "bound-" + x, y[0]), text_of)
+        body = re.sub(rf"(?<![^{SEP}])(?<!\.)[^{SEP}]+", lambda x: to.get(x[0], x[0]), text_of).replace("bound-", "")
         for v in still:
             body = re.sub(rf"\(to_z w\d+ l\.{re.escape(v)}\)", f"l.{v}", body)
             body = re.sub(rf"to_z w\d+ l\.{re.escape(v)}(?![^{SEP}])", f"l.{v}", body)
@@ -502,15 +514,38 @@ def convert(path, crate, names, all_src):
         else:
             e2 = e.strip()
         out.append((comment + "\n" if comment else "") + f"pub {new} : goal.{new}\n{line}{new} c ={sep}{e2}")
+    shared = []
+    inv_text = " ".join(inv_out)
+    again = True
+    while again:
+        again = False
+        for b in lemmas:
+            n = re.search(r"(?m)^(?:abbrev |pub |unfoldable |data |record )*([^\s:]+)", "\n".join(l for l in b.split("\n") if not l.startswith("--")))[1]
+            if b not in shared and re.search(rf"(?<![^{SEP}])(?<!\.){re.escape(n)}(?![^{SEP}])", inv_text + " ".join(shared)):
+                shared.append(b)
+                again = True
+    lemmas_here = [b for b in lemmas if b not in shared]
+    shared_names, public = [], []
+    for b in [x for x in lemmas if x in shared]:
+        ls = b.split("\n")
+        for i, l in enumerate(ls):
+            if not l.startswith("--"):
+                if not re.match(r"(?:abbrev |unfoldable )*pub |pub ", l):
+                    ls[i] = re.sub(r"^((?:abbrev |unfoldable )?)", r"\1pub ", l)
+                shared_names.append(re.search(r"^(?:abbrev |pub |unfoldable |data |record )*([^\s:]+)", l)[1])
+                break
+        public.append("\n".join(ls))
     folder = os.path.dirname(path)
     header = "\n".join(h for h in head if h.strip())
     header = (header + "\n") if header else ""
     left = [f"left: {path}: {p}" for p in problems]
     if inv_out:
         with open(os.path.join(folder, "Invariants.antt"), "w", encoding="utf-8") as f:
-            f.write(header + "\n".join(own_use + [f"use {where}.Given as goal"]) + "\n\n" + "\n\n".join(inv_out) + "\n")
+            f.write(header + "\n".join(own_use + [f"use {where}.Given as goal"]) + "\n\n" + "\n\n".join(public + inv_out) + "\n")
     if out:
-        body = "\n\n".join(lemmas + out)
+        body = "\n\n".join(lemmas_here + out)
+        if shared_names:
+            own_use = own_use + [f"use {where}.Invariants.{{{', '.join(shared_names)}}}"]
         with open(os.path.join(folder, "Answers.antt"), "w", encoding="utf-8") as f:
             f.write(("" if inv_out else header) + "\n".join(own_use + [f"use {where}.Goals as goal"]) + "\n\n" + body + "\n")
     os.remove(path)
