@@ -322,8 +322,8 @@ def convert(path, crate, names, all_src):
                 parts[2] = renamed["." + parts[1], "." + parts[2]][1][1:]
             out = ["c"]
             i = 1
-            if len(parts) > 1 and parts[1] == "fits":
-                parts[1] = "ranges"
+            if len(parts) > 1:
+                parts[1] = {"fits": "ranges", "well-formed": "well_formed"}.get(parts[1], parts[1])
             for k in range(len(parts), 2, -1):
                 hit = arms.get((norm(parts[1]), tuple(parts[2:k])))
                 if hit:
@@ -391,7 +391,7 @@ def convert(path, crate, names, all_src):
     def plain(s):
         for k in same:
             s = re.sub(rf"\({re.escape(k)} ([^{SEP}]+(?:\.before)*)\)", r"\1", s)
-            s = re.sub(rf"(?<![^{SEP}]){re.escape(k)} (?=[^{SEP}])", "", s)
+            s = re.sub(rf"(?<![^{SEP}])(?<!\.)(?<!λ ){re.escape(k)} (?=[^{SEP}])", "", s)
         return s
 
     for name in order:
