@@ -304,7 +304,11 @@ def convert(path, crate, names, all_src):
                     changed = True
                     break
         for r in roots - {"c"}:
-            e = re.sub(rf"(?<![^{SEP}])(?<!\.){re.escape(r)}(?![^{SEP}])", "c", e)
+            # a variable of that name that a λ binds is another one
+            e = re.sub(rf"λ (?:[^\s().]+ )*{re.escape(r)}(?: [^\s().]+)*\. (?:[^()]|\((?:[^()]|\((?:[^()]|\([^()]*\))*\))*\))*",
+                       lambda y: re.sub(rf"(?<![^{SEP}])(?<!\.){re.escape(r)}(?![^{SEP}])(?!\.[a-z])", "bound-" + r, y[0]), e)
+            e = re.sub(rf"(?<![^{SEP}])(?<!\.){re.escape(r)}(?![^{SEP}])(?! =)", "c", e)
+            e = e.replace("bound-" + r, r)
         # a name for a path is written out, so that the path's new names are found
         while True:
             m = None
@@ -323,7 +327,7 @@ def convert(path, crate, names, all_src):
             out = ["c"]
             i = 1
             if len(parts) > 1:
-                parts[1] = {"fits": "ranges", "well-formed": "well_formed"}.get(parts[1], parts[1])
+                parts[1] = {"fits": "ranges", "well-formed": "well_formed", "good": "well_formed"}.get(parts[1], parts[1])
             for k in range(len(parts), 2, -1):
                 hit = arms.get((norm(parts[1]), tuple(parts[2:k])))
                 if hit:
@@ -355,7 +359,9 @@ def convert(path, crate, names, all_src):
                     if hit:
                         return ".".join(out)
                 if i == 2 and out[1] not in ("args", "requires", "ranges"):
-                    p = {"left": "false", "taken": "true", "inv": "invariant", "type-inv": "type_inv", "ok": "type_inv", "last": "new", "kept": "auto"}.get(p, p)
+                    p = {"left": "false", "taken": "true", "inv": "invariant", "type-inv": "type_inv", "ok": "type_inv"}.get(p, p)
+                    if out[1] in params:
+                        p = {"last": "new", "kept": "auto"}.get(p, p)
                     p = fields.get(out[1], {}).get(p, p)
                     if p in ("new", "auto") and out[1] in params:
                         n = 0
