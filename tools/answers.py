@@ -207,19 +207,68 @@ def lib_text(crate):
     return text
 
 
-def convert(path, crate, names, all_src):
+ARGUMENT = r"(?:\([^()]*\)|[\w+-]*calls|[\w+-]*_at|at-measure|[\w-]+\.Post|invariant-[^\s()]+|decreases-[^\s()]+)"
+
+
+def cycle(path, crate, names, all_src):
+    """The proofs of functions that call one another, in one section over the measure t."""
     rel = os.path.relpath(os.path.dirname(path), f"crates/{crate}/proofs")
     module = rel.replace("/", ".")
-    key = f"Rattle-{crate}-proofs.{module}.Lts"
+    text = open(path, encoding="utf-8").read()
+    aliases = dict(re.findall(rf"(?m)^use Rattle\.{crate}\.proofs\.{re.escape(module)}\.Lts-(\S+) as (\S+)$", text))
+    if not aliases:
+        return "a cycle that is not known"
+    head, _, rest = text.partition("module _ (t : ℕ) where\n")
+    section, _, _ = rest.partition("\npub +")
+    section = "\n".join(l[2:] if l.startswith("  ") else l for l in section.split("\n"))
+    section = re.sub(r"(?m)^abbrev [^\n]*(?:calls|_at|at-measure) : [^\n]*\n[^\n]*\n", "", section)
+    all_inv, all_out, said = [], [], []
+    for fn, alias in aliases.items():
+        s = head + "\n" + section + "\n"
+        for name, body in re.findall(rf"(?m)^abbrev (\S+) : Type 0\n\1 = ({re.escape(alias)}\.\S+)[^\n]*$", section):
+            s = re.sub(rf"(?m)^abbrev {re.escape(name)} : Type 0\n[^\n]*\n", "", s)
+            s = re.sub(rf"(?<![^{SEP}])(?<!\.){re.escape(name)}(?![^{SEP}])", body.replace(alias + ".", "tie."), s)
+        s = re.sub(rf"(?<![^{SEP}]){re.escape(alias)}\.([A-Z][\w-]*)(?: {ARGUMENT})*", r"tie.\1", s)
+        s = re.sub(rf"(?<![^{SEP}]){re.escape(alias)}\.(invariant|decreases)", r"tie.\1", s)
+        for other in aliases.values():
+            if other != alias:
+                # the other functions' declarations
+                parts = blocks(s)
+                s = "\n\n".join(b for b in parts if not re.search(rf"(?<![^{SEP}]){re.escape(other)}\.(?:Need|invariant|decreases|[A-Z])", b) or b.startswith("use "))
+                for name, _ in re.findall(rf"(?m)^abbrev (\S+) : Type 0\n\1 = ({re.escape(other)}\.\S+)", section):
+                    s = "\n\n".join(b for b in blocks(s) if not re.search(rf"\(\S+ : {re.escape(name)}\)", b) and f"abbrev {name} :" not in b)
+        s = re.sub(r"(?m)^abbrev μ-[^\n]*\n[^\n]*\n", "", s)
+        inv, out, uses, left, lemmas = convert(path, crate, names, all_src, fn=fn, text=s, key=f"Rattle-{crate}-proofs.{module}.Lts-{fn}", prefix=(fn + "-") if len(aliases) > 1 else "")
+        all_inv += inv
+        all_out += out
+        said += left
+    measures = re.findall(r"(?m)^μ-(\S+) κs a = ([^\n]*)$", head)
+    where = f"Rattle.{crate}.proofs.{module}"
+    comment = "\n".join(l for l in head.split("\n") if l.startswith("--") and head.index(l) < head.index("use "))
+    keep = [u for u in uses if not re.search(r"\.(Reads|Kinds|Kinds\.\{In\}|Tie|PlainCycle)\b|\.Lts-|\{statement\}", u)]
+    folder = os.path.dirname(path)
+    with open(os.path.join(folder, "Invariants.antt"), "w", encoding="utf-8") as f:
+        f.write(comment + "\n" + "\n".join(keep + [f"use {where}.Given as goal"]) + "\n\n" + "\n\n".join([f"-- {a}: {b}\nabbrev pub decreases-{fn} : goal.decreases-{fn}\ndecreases-{fn} l = ?" for (a, b), fn in zip(measures, aliases)] + all_inv) + "\n")
+    with open(os.path.join(folder, "Answers.antt"), "w", encoding="utf-8") as f:
+        f.write("\n".join(keep + [f"use {where}.Goals as goal"]) + "\n\n" + "\n\n".join(lemmas + all_out) + "\n")
+    os.remove(path)
+    return "\n".join(said + [f"left: {path}: the measures"])
+
+
+def convert(path, crate, names, all_src, fn=None, text=None, key=None, prefix=""):
+    rel = os.path.relpath(os.path.dirname(path), f"crates/{crate}/proofs")
+    module = rel.replace("/", ".")
+    in_cycle = text is not None
+    key = key or f"Rattle-{crate}-proofs.{module}.Lts"
     if key not in names:
         return f"no {key} in the list of names"
     it = names[key]
-    text = flat(open(path, encoding="utf-8").read())
+    text = flat(text if in_cycle else open(path, encoding="utf-8").read())
     for old in set(re.findall(r"(?m)^ *(?:abbrev |pub )*([a-z]\w*[a-z0-9][A-Z][\w-]*) : ", text)):
         text = TOKEN.sub(lambda m: snake(m[0]) if m[0] == old else m[0], text)
     if re.search(r"(?m)^(module|mutual) ", text):
         return "a section"
-    fn = rel.split("/")[-1]
+    fn = fn or rel.split("/")[-1]
     src_file = f"crates/{crate}/src/" + ("/".join(rel.split("/")[:-1]) + ".rt" if "/" in rel else "")
     src = all_src
     if "/" in rel and os.path.exists(src_file):
@@ -314,7 +363,7 @@ def convert(path, crate, names, all_src):
             m = None
             for x in re.finditer(rf"let ([^{SEP}]+) = (c(?:\.[^{SEP}]+)+) in\s*", e):
                 steps = x[2].split(".")[1:]
-                if len(steps) == 1 and steps[0] not in ("fits", "ranges"):
+                if len(steps) == 1 and steps[0] not in ("fits", "ranges") or in_cycle and steps in (["requires", "1"], ["pre", "1"]):
                     m = x
                     break
             if not m:
@@ -348,6 +397,10 @@ def convert(path, crate, names, all_src):
                                 return ".".join(out)
                     i += 1
                     continue
+                if i == 1 and p == "requires" and in_cycle and parts[2:] == ["0"]:
+                    return "c.MEASURE"
+                if i == 1 and p == "requires" and in_cycle and parts[2:3] == ["1"]:
+                    parts = parts[:2] + parts[3:]
                 if i == 1 and p == "requires" and len(own) > 1:
                     restp = "." + ".".join(parts[2:])
                     hit = False
@@ -379,8 +432,14 @@ def convert(path, crate, names, all_src):
             return ".".join(out)
 
         e = re.sub(rf"(?<![^{SEP}])(?<!\.)c(?:\.[^{SEP}]+)+", chain, e)
-        # the test of `!x` says what it says of x
-        e = re.sub(rf"not-(?:true|false) _ (c\.[^{SEP}]+\.(?:true|false))(?![^{SEP}])", r"\1", e)
+        e = e.replace(", c.MEASURE", "")
+        # the test of `!x` says what it says of x, but where x is a field
+
+        def plain_test(m):
+            n = re.match(r"c\.if-not-(\w+)", m[1])
+            return m[0] if n and re.search(rf"!{n[1]}\.\w", src) else m[1]
+
+        e = re.sub(rf"not-(?:true|false) _ (c\.[^{SEP}]+\.(?:true|false))(?![^{SEP}])", plain_test, e)
         e = re.sub(r"\((c\.\S+\.(?:true|false))\)", r"\1", e)
         return e
 
@@ -482,12 +541,14 @@ def convert(path, crate, names, all_src):
             body = re.sub(rf"\(to_z w\d+ l\.{re.escape(v)}\)", f"l.{v}", body)
             body = re.sub(rf"to_z w\d+ l\.{re.escape(v)}(?![^{SEP}])", f"l.{v}", body)
         comment = "\n".join(l for l in b.split("\n") if l.startswith("--"))
+        new = prefix + new
         inv_out.append((comment + "\n" if comment else "") + f"abbrev pub {kind}-{new} : goal.{kind}-{new}\n{kind}-{new} l = {body.strip()}")
     # ---- answers
     out, seen = [], set()
     skipped = []
     for i, (name, old, rest, b) in enumerate(need):
-        new = needs.get(norm(name)) or needs.get(norm(old))
+        older = {"loopholds": "loopinit", "loopless": "loopsmaller", "loopagain": "looppreserved"}
+        new = needs.get(norm(name)) or needs.get(norm(old)) or needs.get(re.sub(r"^(loopholds|loopless|loopagain)", lambda m: older[m[1]], norm(old)))
         if new is None:
             skipped.append(old)
             continue
@@ -519,7 +580,10 @@ def convert(path, crate, names, all_src):
             e2 = "\n    ".join(front) + "\n    " + e.strip()
         else:
             e2 = e.strip()
-        out.append((comment + "\n" if comment else "") + f"pub {new} : goal.{new}\n{line}{new} c ={sep}{e2}")
+        new = prefix + new
+        out.append((comment + "\n" if comment else "") + f"pub {new} : goal.{new}\n{line}{new} {'t ' if in_cycle else ''}c ={sep}{e2}")
+    if in_cycle:
+        return inv_out, out, own_use, [f"left: {path}: {p}" for p in problems] + ([f"gone: {path}: {' '.join(skipped)}"] if skipped else []), lemmas
     shared = []
     inv_text = " ".join(inv_out)
     again = True
@@ -573,7 +637,7 @@ def main():
             p = os.path.join(top, "Proof.antt")
             if only and os.path.basename(top) not in only:
                 continue
-            said = convert(p, crate, names, all_src)
+            said = (cycle if os.path.basename(top).startswith("+") else convert)(p, crate, names, all_src)
             if said:
                 print(said if said.startswith(("left:", "gone:")) else f"left: {p}: {said}")
 
