@@ -1,0 +1,10 @@
+-- `put_rows` puts line after line. The loop's invariant: the rows from i on are left. The measure is how many they are.
+use Prim.Native.Nat.{◌-◌}
+use Rattle.printing.proofs.Rows.{Unprinted}
+use Rattle.printing_code.proofs.put_rows.Given as goal
+
+abbrev pub invariant-loop-i : goal.invariant-loop-i
+invariant-loop-i l = Unprinted l.sizes l.k l.cells l.table l.n l.initial.buf l.from l.buf l.at l.start l.i
+
+abbrev pub decreases-loop-i : goal.decreases-loop-i
+decreases-loop-i l = l.n - l.i
