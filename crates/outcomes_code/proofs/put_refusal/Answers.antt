@@ -1,0 +1,10 @@
+-- `put_refusal` puts the line and the words.
+use Rattle.outcomes.proofs.Outcomes.{refused-room, told-refused}
+use borrow.Author.Rules.{rules}
+use Rattle.outcomes_code.proofs.put_refusal.Goals as goal
+
+pub put_refused-m-requires : goal.put_refused-m-requires
+put_refused-m-requires c = search (rules, refused-room)
+
+pub returns : goal.returns
+returns c = search (rules, told-refused)
