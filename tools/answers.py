@@ -334,10 +334,9 @@ def convert(path, crate, names, all_src, fn=None, text=None, key=None, prefix=""
 
     def fix(expr, roots):
         """The text of an answer, with places flattened. roots: names that stand for the record."""
-        e = plain(re.sub(r"(?:\.before)+(?![\w-])", "", plain(strip_args(expr))))
-        e = re.sub(r"(?:\.before)+(?![\w-])", "", e)
+        e = plain(strip_args(expr))
+        roots = set(roots) | {"c"}
         changed = True
-        roots = set(roots)
         while changed:
             changed = False
             m = re.search(r"let (\S+) : tie\.\S+ = (?:search rules|assumption rules|search \(rules\)) in\s*", e)
@@ -346,12 +345,15 @@ def convert(path, crate, names, all_src, fn=None, text=None, key=None, prefix=""
                 e = e[: m.start()] + e[m.end() :]
                 changed = True
                 continue
-            for m in re.finditer(r"let (\S+)(?: : tie\.\S+)? = \(?([^\s.()]+)\)? in\s*", e):
-                if m[2] in roots or m[2] == "c":
+            for m in re.finditer(r"let (\S+)(?: : tie\.\S+)? = \(?([^\s.()]+)((?:\.before)*)\)? in\s*", e):
+                if m[2] in roots:
                     roots.add(m[1])
                     e = e[: m.start()] + e[m.end() :]
                     changed = True
                     break
+        for r in roots:
+            e = re.sub(rf"(?<![^{SEP}])(?<!\.){re.escape(r)}(?:\.before)+(?![\w-])", r, e)
+        e = plain(e)
         for r in roots - {"c"}:
             # a variable of that name that a λ binds is another one
             e = re.sub(rf"λ (?:[^\s().]+ )*{re.escape(r)}(?: [^\s().]+)*\. (?:[^()]|\((?:[^()]|\((?:[^()]|\([^()]*\))*\))*\))*",

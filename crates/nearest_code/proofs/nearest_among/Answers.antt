@@ -48,7 +48,7 @@ loop-p-preserved c =
     found-step a.around (rect_at a.cells.now) a.size _ _ _ c.loop-p.invariant c.loop-p-test.true _ w _ _ (elim c.if-gap-least.branch [ then-gap-least w ↦ inl (w.if-gap-least.true, w.least-is, w.place-is) | else-gap-least w ↦ inr (w.if-gap-least.false, w.least-is, w.place-is) ])
 
 pub overflow_cast-result : goal.overflow_cast-result
-overflow_cast-result c = let i = c.loop-p.invariant in omega (arith, i, i.within, c.requires.part.small)
+overflow_cast-result c = let i = c.loop-p.invariant in omega (arith, i.before, i.within, c.requires.part.small)
 
 pub returns : goal.returns
 returns c =
