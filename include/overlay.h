@@ -1,4 +1,4 @@
-/* The calls of the plan overlay for C and C++, x86-64 Linux. Link with libcapi.a, which `rt staticlib capi` writes to target/staticlib, or, where it is
+/* The calls of the plan overlay for C and C++, x86-64 Linux. Link with libcapi.a, which `./build capi` writes to target/staticlib, or, where it is
  * installed, with what `pkg-config --cflags --libs overlay` says. docs/INTEGRATORS.md of the repository says how to page and what each call is for,
  * docs/MANUAL.md what the answers mean on site and what to do about each number; examples/ has programs that are both C and C++. All three are installed below
  * share/doc/overlay.
@@ -445,7 +445,7 @@ static inline const char *overlay_cause_text(uint32_t number)
     }
 }
 
-/* ---- The program `overlay` as functions. Link with libprogram.a, which `rt staticlib program` writes; programs/overlay.c is the program around them. */
+/* ---- The program `overlay` as functions. Link with libprogram.a, which `./build program` writes; programs/overlay.c is the program around them. */
 
 /* The bytes of the longest text, one more of which is refused by 13; the cells of `table` and of `work`; the bytes of the buffers for standard output and
  * standard error. */

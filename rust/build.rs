@@ -1,4 +1,4 @@
-//! Makes the declarations of the calls of include/overlay.h, and says where the library is: in the folder that OVERLAY_LIB names, else where `rt staticlib capi`
+//! Makes the declarations of the calls of include/overlay.h, and says where the library is: in the folder that OVERLAY_LIB names, else where `./build capi`
 //! puts it, else where the linker looks, as it is installed.
 
 use std::env::var;

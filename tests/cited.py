@@ -19,7 +19,7 @@ def listed():
     """The files of the repository, without what is built."""
     found = []
     for folder, folders, names in os.walk("."):
-        folders[:] = [name for name in folders if name not in ("target", ".git", "__pycache__")]
+        folders[:] = [name for name in folders if name not in ("target", "out", ".git", "__pycache__")]
         found += [os.path.join(folder, name)[2:] for name in names]
     return sorted(found)
 

@@ -29,7 +29,7 @@
 //!
 //! # Linking
 //!
-//! The library is `libcapi.a`, which `rt staticlib capi` writes to `target/staticlib` of the repository. It is looked for in the folder that the environment
+//! The library is `libcapi.a`, which `./build capi` writes to `target/staticlib` of the repository. It is looked for in the folder that the environment
 //! names by `OVERLAY_LIB`, then there, and else as `liboverlay.a` where the linker looks. A library of another version does not link.
 
 #![deny(missing_docs)]
