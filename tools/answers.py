@@ -334,7 +334,9 @@ def convert(path, crate, names, all_src, fn=None, text=None, key=None, prefix=""
 
     def fix(expr, roots):
         """The text of an answer, with places flattened. roots: names that stand for the record."""
-        e = plain(strip_args(expr))
+        e = strip_args(expr)
+        for _ in range(6):
+            e = re.sub(r"\(([^\s().]+)((?:\.before)*)\)(?=[\s)]|$)", r"\1\2", plain(e)) if same else e
         roots = set(roots) | {"c"}
         changed = True
         while changed:
