@@ -1,0 +1,12 @@
+-- `put_spot` puts the layer and what is behind it.
+use Rattle.printing.proofs.Puts.{room-first, room-second, put_both}
+use Rattle.asking_code.proofs.gaps.put_spot.Goals as goal
+
+pub put_field-a-requires : goal.put_field-a-requires
+put_field-a-requires c = search room-first
+
+pub put_place-requires : goal.put_place-requires
+put_place-requires c = search room-second
+
+pub returns : goal.returns
+returns c = search put_both

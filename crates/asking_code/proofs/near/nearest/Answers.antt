@@ -1,0 +1,21 @@
+-- `nearest` reads the text, and tells of its plan or that it is refused.
+use Rattle.outcomes.proofs.Outcomes.{told_same}
+use Rattle.asking_code.proofs.Texts.{read-refused, read-sound, read-inside, read_fits}
+use Rattle.asking_code.proofs.Answers.{nearest-read}
+use borrow.Author.Rules.{rules}
+use Rattle.asking_code.proofs.near.nearest.Goals as goal
+
+pub returns-then-reading-ne0 : goal.returns-then-reading-ne0
+returns-then-reading-ne0 c = search (rules, told_same, read-refused)
+
+pub slice_bounds-cells-end : goal.slice_bounds-cells-end
+slice_bounds-cells-end c = search (rules, read_fits)
+
+pub slice_bounds-tell_nearest-end : goal.slice_bounds-tell_nearest-end
+slice_bounds-tell_nearest-end c = search (rules, read-inside)
+
+pub tell_nearest-requires : goal.tell_nearest-requires
+tell_nearest-requires c = search (rules, read-sound)
+
+pub returns : goal.returns
+returns c = search (rules, nearest-read)
