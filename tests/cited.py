@@ -67,7 +67,7 @@ def wrong(span):
         return [] if placeholder or is_path(span) else [f"no file `{span}`"]
     if re.fullmatch(NAME + r"\.\.\.", span):
         return [] if any(word.startswith(span[:-3]) for word in WORDS) else [f"no name `{span}`"]
-    if re.fullmatch(rf"\.?{NAME}( \.\.)?( \.{NAME})*", span):
+    if re.fullmatch(rf"\.?{NAME}(\.{NAME})*|\({NAME} \.\.\)(\.{NAME})+", span):
         return [f"no name `{name}`" for name in re.findall(NAME, span) if name not in WORDS | FOREIGN]
     folders = r"(?:crates|docs|tests|examples|include|python|rust|programs|bench)/[\w./-]*\w"
     return [f"no file `{path}`" for path in re.findall(folders, span) if not is_path(path)]

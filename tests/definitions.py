@@ -31,8 +31,8 @@ CALLS = {
 def taken(text):
     """The names that a file takes from definitions, each with its crate and file."""
     found = {}
-    for crate, file, names in re.findall(r"use Rattle·(\w+)(?:·specs)?\.specs\.([\w.-]+)\.\{([^}]*)\}", text):
-        found.update({name.strip().strip("_"): (crate, file) for name in names.split(",")})
+    for crate, file, names in re.findall(r"use Rattle\.(\w+)\.specs\.([\w.-]+)\.\{([^}]*)\}", text):
+        found.update({name.strip().strip("◌"): (crate, file) for name in names.split(",")})
     return found
 
 
@@ -43,7 +43,7 @@ def defined(text):
     for part in parts:
         match = re.match(r"(?:abbrev |unfoldable |opaque |pub )*(record |data |module )?([^\s:(){}]+)", part)
         if match and match[1] != "module " and (match[1] is None or "≡" in part):
-            found[match[2].strip("_")] = part
+            found[match[2].strip("◌")] = part
     return found
 
 

@@ -231,7 +231,7 @@ fn every_change_is_noticed() {
         ("corners: &[f64]", "corners: &[u64]"),
         ("    hours: &[u32],\n", ""),
         ("hours: &[u32]", "hours: &mut [u32]"),
-        ("#[no_mangle]\npub extern \"C\" fn overlay_row(", "fn overlay_row("),
+        ("#[unsafe(no_mangle)]\npub extern \"C\" fn overlay_row(", "fn overlay_row("),
     ];
     for (old, new) in header {
         assert!(!agree(&changed(HEADER, old, new), LIBRARY), "header: {old:?} as {new:?}");
@@ -289,7 +289,7 @@ fn causes_are_told_in_the_same_words() {
 
 /// The words of the program, a line each, from 1.
 fn in_program(text: &str) -> Vec<String> {
-    let list = between(text, "causeLines = ", "\n\n");
+    let list = between(text, "cause_lines = ", "\n\n");
     list.split('"').skip(3).step_by(2).map(|line| line.trim_end_matches("\\n").to_string()).collect()
 }
 
@@ -300,7 +300,7 @@ fn the_program_tells_causes_in_the_same_words_or_in_its_own() {
     let other: Vec<u32> =
         (1..25).filter(|&n| words[n as usize - 1] != in_enum(HEADER)[n as usize - 1]).collect();
     assert_eq!(other, OWN_WORDS.map(|(number, _)| number));
-    assert!(COMMANDS.contains(&format!("versionLine = ascii \"overlay {}\\n\"", version())));
+    assert!(COMMANDS.contains(&format!("version_line = ascii \"overlay {}\\n\"", version())));
 }
 
 /// A name in capitals, its words parted: `FewLayers` and `FEW_LAYERS` are `FEW_LAYERS`.
