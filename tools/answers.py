@@ -460,7 +460,7 @@ def convert(path, crate, names, all_src, fn=None, text=None, key=None, prefix=""
     def plain(s):
         for k in same:
             s = re.sub(rf"\({re.escape(k)} ([^{SEP}]+(?:\.before)*)\)", r"\1", s)
-            s = re.sub(rf"(?<![^{SEP}])(?<!\.)(?<!λ ){re.escape(k)} (?=[^{SEP}])", "", s)
+            s = re.sub(rf"(?<![^{SEP}])(?<!\.)(?<!λ ){re.escape(k)} (?=[^{SEP}=≡∙→×])", "", s)
         return s
 
     for name in order:
