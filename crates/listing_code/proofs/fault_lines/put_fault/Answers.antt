@@ -1,0 +1,11 @@
+-- `put_fault` puts both lines.
+use borrow.Author.Rules.{rules}
+use Rattle.outcomes.proofs.Outcomes.{refused-room}
+use Rattle.listing.proofs.Faults.{fault-told}
+use Rattle.listing_code.proofs.fault_lines.put_fault.Goals as goal
+
+pub put_refused-m-requires : goal.put_refused-m-requires
+put_refused-m-requires c = search (rules, refused-room)
+
+pub returns : goal.returns
+returns c = search (rules, fault-told)

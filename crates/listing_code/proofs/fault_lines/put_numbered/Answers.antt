@@ -1,0 +1,14 @@
+-- `put_numbered` puts the number and the words.
+use borrow.Author.Rules.{rules}
+use Rattle.outcomes.proofs.Outcomes.{word_room}
+use Rattle.printing.proofs.Puts.{room-second, put_both}
+use Rattle.listing_code.proofs.fault_lines.put_numbered.Goals as goal
+
+pub put_decimal-a-requires : goal.put_decimal-a-requires
+put_decimal-a-requires c = search (rules, word_room)
+
+pub put_colon-requires : goal.put_colon-requires
+put_colon-requires c = search room-second
+
+pub returns : goal.returns
+returns c = search put_both

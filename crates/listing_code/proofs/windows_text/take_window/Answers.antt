@@ -1,0 +1,13 @@
+-- `take_window` takes the line, and where it has no window tells what is wrong with it.
+use Rattle.listing.proofs.WindowLines.{no_line, line-window, line-wrong}
+use borrow.Author.Rules.{rules}
+use Rattle.listing_code.proofs.windows_text.take_window.Goals as goal
+
+pub returns-then-t-at : goal.returns-then-t-at
+returns-then-t-at c = search (rules, no_line)
+
+pub returns-in-Window : goal.returns-in-Window
+returns-in-Window c = search (rules, line-window)
+
+pub returns-in-Wrong : goal.returns-in-Wrong
+returns-in-Wrong c = search (rules, line-wrong)
