@@ -4,9 +4,9 @@ import os
 import re
 from glob import glob
 
-NAME = r"[A-Za-z_][\w'→·-]*"
+NAME = r"[A-Za-z_][\w'→-]*"
 # Words in backticks that name nothing of the repository, and names of before that a page tells of.
-FOREIGN = set("M- cargo gcc clang awk numpy python3 rt pkg-config F enum-X RT_JOBS PATH OVERLAY_PAGE_AREA OVERLAY_RUN_GROUND overlay_fresh_cursor".split())
+FOREIGN = set("M- cargo gcc clang awk numpy python3 rt pkg-config F PATH OVERLAY_PAGE_AREA OVERLAY_RUN_GROUND overlay_fresh_cursor".split())
 MADE = ("target/", "usr/", "7", "first.c", "first.cpp", "first.py", "src/records.rt", "proofs/Records.antt")
 
 
