@@ -437,6 +437,7 @@ def convert(path, crate, names, all_src, fn=None, text=None, key=None, prefix=""
 
         e = re.sub(rf"(?<![^{SEP}])(?<!\.)c(?:\.[^{SEP}]+)+", chain, e)
         e = e.replace(", c.MEASURE", "")
+        e = re.sub(rf"not-(?:true|false) _ (c\.[^{SEP}]+\.(?:true|false))-raw(?![^{SEP}])", r"\1", e)
         # the test of `!x` says what it says of x, but where x is a field
 
         def plain_test(m):
@@ -448,6 +449,7 @@ def convert(path, crate, names, all_src, fn=None, text=None, key=None, prefix=""
         return e
 
     helpers = {}
+    implicit, implicit_front = {}, {}
     lemmas = []
     same = set()
     for name in list(order):
@@ -480,6 +482,19 @@ def convert(path, crate, names, all_src, fn=None, text=None, key=None, prefix=""
         if m[2] != "c":
             typ = re.sub(rf"(?<![^{SEP}])(?<!\.){re.escape(m[2])}(?![^{SEP}])", "c", typ)
         args = m[8].split()
+        typ = typ.strip()
+        while True:
+            im = re.match(r"\{([^{}:]*) : ([^{}]*)\} (?:→ )?", typ)
+            if not im:
+                break
+            implicit[name] = implicit.get(name, []) + im[1].split()
+            typ = re.sub(r"\A\{([^{}]*)\}", r"(\1)", typ, count=1)
+            typ = re.sub(r"\A(\([^()]*\)) (?!→)", r"\1 → ", typ)
+            rest_of = typ.partition(" → ")[2]
+            implicit_front[name] = implicit_front.get(name, "") + typ[: len(typ) - len(rest_of)]
+            typ = rest_of
+        typ = implicit_front.get(name, "") + typ
+        args = implicit.get(name, []) + [x for x in args if not x.startswith("{")]
         helpers[name] = (typ, args, bod, (m[5] or "").strip())
 
     def with_helpers(e):
@@ -505,6 +520,8 @@ def convert(path, crate, names, all_src, fn=None, text=None, key=None, prefix=""
                 s = re.sub(rf"\(({re.escape(k)}) c\)(?=[.\s)]|$)", r"\1", s)
                 s = re.sub(rf"(?<![^{SEP}]){re.escape(k)} c(?![^{SEP}]|\.)", k, s)
                 s = re.sub(rf"(?<![^{SEP}]){re.escape(k)} \(c\)", k, s)
+                if implicit.get(k):
+                    s = re.sub(rf"(?<![^{SEP}])(?<!\.){re.escape(k)}(?![^{SEP}])", lambda m: k + " _" * len(implicit[k]), s)
             return s
 
         front = []
@@ -567,7 +584,10 @@ def convert(path, crate, names, all_src, fn=None, text=None, key=None, prefix=""
         e = fix(m[3], roots)
         if args and args[0] != "c":
             e = re.sub(rf"(?<![^{SEP}])(?<!\.){re.escape(args[0])}(?![^{SEP}])", "c", e)
+        more = [x for x in args[1:] if x != "κs" and x != "_"]
         front, e, unf = with_helpers(e)
+        if more:
+            e = f"λ {' '.join(more)}.\n    {e.strip()}"
         names_of = asked.get(norm(name)) or asked.get(norm(old)) or asked.get(norm(new))
         if names_of:
             e = fix(as_record(e, names_of, lemmas), {"c"})

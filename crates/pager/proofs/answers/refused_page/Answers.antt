@@ -1,0 +1,6 @@
+-- `pager::answers::refused_page`.
+use borrow.Author.Rules.{rules}
+use Rattle.pager.proofs.answers.refused_page.Goals as goal
+
+pub returns : goal.returns
+returns c = rw c.nothing.ensures
