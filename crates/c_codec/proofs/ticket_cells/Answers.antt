@@ -11,8 +11,7 @@ use Rattle.lists.proofs.Tests.{as_number}
 use Rattle.paging.specs.declared.Ticket.{Ticket}
 use Rattle.c_cells.specs.Cells.{ticket_cells}
 use Rattle.c_cells.proofs.Cells.{five-cells}
-use Rattle.c_codec.proofs.ticket_cells.Statement.{statement}
-use Rattle.c_codec.proofs.ticket_cells.Tie as tie
+use Rattle.c_codec.proofs.ticket_cells.Goals as goal
 
 -- a ticket's cells as they are made
 made : (t : Ticket) → let c = t.cursor in let p = c.chosen in
@@ -24,43 +23,5 @@ made t =
     ap₂ (λ (n : ℕ) (l : List ℕ). n ∷ c.layer ∷ c.place ∷ c.filled ∷ (l ++ (c.next ∷ last))) (as_number c.ended) (five-cells c.chosen)
     ∙ ap (λ (l : List ℕ). cond {A = ℕ} c.ended 1 0 ∷ c.layer ∷ c.place ∷ c.filled ∷ l) (sym (append_assoc (padded 5 c.chosen) (c.next ∷ []) last))
 
-cast-t5 : tie.Need-overflow-cast-t5
-cast-t5 c = search rules
-
-array-read-t8 : tie.Need-array-read-t8
-array-read-t8 c = search rules
-
-array-read-t11 : tie.Need-array-read-t11
-array-read-t11 c = search rules
-
-array-read-t14 : tie.Need-array-read-t14
-array-read-t14 c = search rules
-
-array-read-t17 : tie.Need-array-read-t17
-array-read-t17 c = search rules
-
-array-read-t20 : tie.Need-array-read-t20
-array-read-t20 c = search rules
-
-cast-t22 : tie.Need-overflow-cast-t22
-cast-t22 c = search rules
-
-cast-t24 : tie.Need-overflow-cast-t24
-cast-t24 c = search rules
-
-returns : tie.Need-returns
-returns c = let s : tie.Start = search rules in made s.args.ticket
-
-pub ticket-cells-spec : {M : Type 1} → statement M
-ticket-cells-spec =
-    tie.close
-    (tie.spec
-    cast-t5
-    array-read-t8
-    array-read-t11
-    array-read-t14
-    array-read-t17
-    array-read-t20
-    cast-t22
-    cast-t24
-    returns)
+pub returns : goal.returns
+returns c = made c.args.ticket
