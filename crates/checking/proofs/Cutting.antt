@@ -13,7 +13,6 @@ use Rattle.decimal.specs.Reading.{Reading}
 use Rattle.line.specs.declared.Line.{Line}
 use Rattle.line.specs.Parsing.{line}
 use Rattle.line.proofs.Theorems.{lines-hold}
-use Rattle.text.specs.Theorems as Text
 use Rattle.checking.specs.Lines.{text_lines, in_place, reads_in_place, well_formed, NumberedLine, bad_from}
 use Rattle.checking.specs.Places.{first_line, after_line}
 use Rattle.checking.specs.Theorems.{joined, WellFormed, next}

@@ -1,7 +1,7 @@
 -- The line that is named is the first that is not well formed.
 use mathlib.Core.Path.{◌≡◌, refl, sym, ap, ◌∙◌, subst}
 use mathlib.Core.List.{List, [], ◌∷◌, ◌++◌, append_assoc, append-nil}
-use mathlib.Core.Option.{none, some}
+use mathlib.Core.Option.{some}
 use mathlib.Core.Bool.{Bool, true, false}
 use mathlib.Core.Logic.{◌⊎◌, inl, inr}
 use Prim.Native.Nat.{ℕ, ◌+◌, ◌<◌}
@@ -23,7 +23,7 @@ use Rattle.checking.specs.Lines.{text_lines, in_place, well_formed, bad_from, ba
 use Rattle.checking.specs.Places.{first_line, after_line}
 use Rattle.checking.specs.Theorems.{joined, WellFormed, next, FirstBad}
 use Rattle.checking.specs.Theorems as Checking
-use Rattle.checking.proofs.Lines.{first-after, front, whole}
+use Rattle.checking.proofs.Lines.{first-after, front}
 use Rattle.checking.proofs.Bad.{first-formed}
 use Rattle.checking.proofs.Cutting.{still, Cutting, first-none, cut-first}
 

@@ -29,7 +29,6 @@ use Rattle.timed.proofs.Theorems.{timed-walks}
 use Rattle.paging.specs.declared.Cursor.{Cursor}
 use Rattle.paging.specs.declared.Ticket.{Ticket}
 use Rattle.paging.specs.declared.Run.{Run}
-use Rattle.paging.specs.declared.Run.TheVariants as Run
 use Rattle.paging.specs.Overlays.{Overlay, overlay, timed_overlay}
 use Rattle.paging.specs.Cursors.{cursor_of, due_cursor, ended_cursor, same_cursor, find_in, resume}
 use Rattle.paging.specs.Pages.{paged, page_of, area_sum}

@@ -15,7 +15,7 @@ use mir.Facts.{to_z-of_z}
 use borrow.Author.Tests.{ne_eqb}
 use Rattle.geometry.proofs.Integers.{zarith, size-law, one_side, sfits→}
 use Rattle.decimal.proofs.Signs.{short-fits}
-use Rattle.line.specs.Parsing.{next, behind, field}
+use Rattle.line.specs.Parsing.{next, field}
 use Rattle.line.specs.Places.{starts_with}
 use Rattle.line.proofs.Words.{behind-is}
 use Rattle.line.proofs.Places.{Fielded-at}
@@ -24,7 +24,7 @@ use Rattle.listing.specs.declared.Taken.{Taken}
 use Rattle.listing.specs.declared.Taken.TheVariants.{Window, Wrong}
 use Rattle.checking.specs.Places.{first_line}
 use Rattle.listing.specs.Reasons.{WINDOW, line_reason}
-use Rattle.listing.specs.Windows.{window_fields, minute_of, WindowDue, window, wrong, judged, fields_due, line_due, reasoned, window_due}
+use Rattle.listing.specs.Windows.{window_fields, minute_of, WindowDue, wrong, judged, fields_due, line_due, reasoned, window_due}
 use Rattle.listing.specs.inner.Parts.{Takes, judged_at, told_reason}
 
 -- ---- a minute

@@ -24,7 +24,6 @@ use Rattle.plan.proofs.Theorems.{plan-then, plan-checks, plan-passed}
 use Rattle.lists.proofs.Numbers.{same-tells}
 use Rattle.plan.proofs.Growing.{framed}
 use Rattle.sweep.specs.Sweep.{sweep_order, order_cause}
-use Rattle.sweep.proofs.Theorems.{sweep-holding}
 use Rattle.search.specs.Traversal.{row_of}
 use Rattle.search.proofs.Paging.{page-stops}
 use Rattle.windows.specs.HoursCall.{hours_cause}
@@ -35,7 +34,6 @@ use Rattle.paging.specs.declared.Cursor.{Cursor}
 use Rattle.paging.specs.declared.Ticket.{Ticket}
 use Rattle.paging.specs.declared.Page.{Page}
 use Rattle.paging.specs.declared.Run.{Run}
-use Rattle.paging.specs.declared.Run.TheVariants as Run
 use Rattle.search.specs.declared.Stop.TheVariants.{Refused}
 use Rattle.paging.specs.Overlays.{Overlay, overlay_of}
 use Rattle.paging.specs.Cursors.{resume}

@@ -17,7 +17,7 @@ use Rattle.paging.specs.Overlays.{Overlay}
 use Rattle.paging.specs.Cursors.{resume, due_cursor}
 use Rattle.rows.specs.Tables.{fill, rows_in}
 use Rattle.paging.specs.Pages.{room, page_of}
-use Rattle.paging.specs.Theorems.{Call, cause, answer, table_after, counted, Due, PageHolds}
+use Rattle.paging.specs.Theorems.{Call, cause, answer, table_after, Due, PageHolds}
 use Rattle.paging.proofs.Overlays.{placed, Lawful}
 use Rattle.paging.proofs.Tables.{places-filled}
 use Rattle.rows.proofs.Tables.{fill-long, fill-kept}

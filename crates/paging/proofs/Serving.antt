@@ -6,9 +6,9 @@ use Rattle.lists.specs.Lists.{is_some}
 use Rattle.totals.specs.Totals.{total_of}
 use Rattle.timed.specs.Timed.{Held}
 use Rattle.paging.specs.Overlays.{Overlay}
-use Rattle.paging.specs.Calls.{current, page_call, page_table, page_counter}
+use Rattle.paging.specs.Calls.{page_call, page_table, page_counter}
 use Rattle.paging.specs.Inner.{page_call_on}
-use Rattle.paging.specs.Theorems.{Call, overlay_at, cause, counted}
+use Rattle.paging.specs.Theorems.{Call, overlay_at, cause}
 use Rattle.paging.proofs.Calls.{Serves}
 use Rattle.paging.proofs.Counters.{current-is}
 use Rattle.paging.proofs.Causes.{first_of, page-passed}

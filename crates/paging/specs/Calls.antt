@@ -1,7 +1,7 @@
 -- What the fresh-ticket call, the page call and the whole run answer (01, "The walk" and "Causes and their numbers"), the last two in their timed form
 -- too (02, Q-12). A counter is 02's run record (Q-5), a lent list of cells.
 use Rattle.std.specs.Prelude.{List, [], ◌∷◌, map, Bool, ◌&&◌, ◌≡◌, ℕ, ◌+◌, ◌*◌, ℤ, eqb, leb, ltb, length, get_or}
-use Rattle.std.proofs.Math.Option.{Option, none, some}
+use Rattle.std.proofs.Math.Option.{Option}
 use Rattle.lists.specs.Lists.{is_some, same}
 use Rattle.totals.specs.declared.Total.{Total}
 use Rattle.totals.specs.Totals.{total_of}
@@ -18,7 +18,6 @@ use Rattle.paging.specs.declared.Page.{Page}
 use Rattle.search.specs.declared.Stop.{Stop}
 use Rattle.search.specs.declared.Stop.TheVariants.{Ended, Full, Spent, Refused}
 use Rattle.paging.specs.declared.Run.{Run}
-use Rattle.paging.specs.declared.Run.TheVariants as Run
 use Rattle.paging.specs.Overlays.{overlay, overlay_of}
 use Rattle.paging.specs.Cursors.{ended_cursor, due_cursor, resume}
 use Rattle.rows.specs.Tables.{fill}

@@ -13,7 +13,6 @@ use Rattle.walk.specs.Walk.{places_of}
 use Rattle.paging.specs.declared.Ticket.{Ticket}
 use Rattle.paging.specs.declared.Page.{Page}
 use Rattle.paging.specs.declared.Run.{Run}
-use Rattle.paging.specs.declared.Run.TheVariants as Run
 use Rattle.paging.specs.Overlays.{Overlay}
 use Rattle.paging.specs.Cursors.{resume}
 use Rattle.paging.specs.Pages.{room, paged, area_sum, page_of}

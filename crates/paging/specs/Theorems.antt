@@ -23,7 +23,6 @@ use Rattle.paging.specs.declared.Cursor.{Cursor}
 use Rattle.paging.specs.declared.Ticket.{Ticket}
 use Rattle.paging.specs.declared.Page.{Page}
 use Rattle.paging.specs.declared.Run.{Run}
-use Rattle.paging.specs.declared.Run.TheVariants as Run
 use Rattle.paging.specs.Overlays.{Overlay, overlay_of}
 use Rattle.paging.specs.Calls.{fresh_cause, fresh_call, fresh_counter, stop_number, page_cause, page_call, page_table, page_counter}
 use Rattle.paging.specs.Calls.{run_cause, run_call, run_table, run_values, WorkAfter}

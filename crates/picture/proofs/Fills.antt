@@ -12,7 +12,7 @@ use lib.ListN.{length, get_or, drop, length-append, drop_of_length-le}
 use lib.Seq.{drop-cons}
 use Rattle.lists.specs.inner.Stores.{Put}
 use Rattle.lists.proofs.Stores.{Left, left-all, left-put, left-none}
-use Rattle.decimal.specs.Numerals.{decimal, numeral}
+use Rattle.decimal.specs.Numerals.{numeral}
 use Rattle.decimal.proofs.Numerals.{length-decimal, size-most}
 use Rattle.printing.specs.inner.Parts.{FitsAt}
 use Rattle.printing.proofs.Puts.{room-left}

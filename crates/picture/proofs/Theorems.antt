@@ -1,10 +1,9 @@
 -- Proofs of specs/Theorems.antt.
 use mathlib.Core.Path.{◌≡◌, refl, ap, subst}
-use mathlib.Core.List.{List, [], ◌∷◌, ◌++◌, flat_map}
+use mathlib.Core.List.{List, ◌++◌, flat_map}
 use mathlib.Core.Logic.{◌⊎◌, inl, inr}
-use Prim.Native.Nat.{ℕ, zero, suc, ◌+◌, ◌*◌, ◌<◌, ◌≤◌}
+use Prim.Native.Nat.{ℕ, zero, suc, ◌*◌, ◌<◌, ◌≤◌}
 use native.Mathlib.Omega.{arith}
-use lib.IntN.{ℤ}
 use lib.Signed.{◌≤ℤ◌}
 use borrow.Author.Tests.{ne_eqb}
 use Rattle.lists.specs.Lists.{upto, each}
@@ -22,7 +21,7 @@ use Rattle.printing.specs.Lines.{row_line}
 use Rattle.picture.specs.Templates.{piece, later}
 use Rattle.picture.specs.Texts.{title_text, outline_text, hatch_text, end_text, margin_text, row_text, ground_text, edge_text}
 use Rattle.picture.specs.Frames.{around, hull, frame_of}
-use Rattle.picture.specs.Pictures.{outlined, shape_at, mark, row_part, seen}
+use Rattle.picture.specs.Pictures.{outlined, shape_at, mark, row_part}
 use Rattle.picture.specs.Hatchings.{hatching_of, beyond, points}
 use Rattle.picture.specs.Theorems.{PicturesHold, path_then, line_then, title_of}
 use Rattle.picture.proofs.Formed.{formed}

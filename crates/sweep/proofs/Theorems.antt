@@ -8,7 +8,7 @@ use lib.IntN.{ℤ}
 use lib.Dec.{eqb}
 use lib.ListN.{length}
 use borrow.Author.Tests.{eq-eqb, eqb-true}
-use Rattle.lists.specs.Lists.{sum, same}
+use Rattle.lists.specs.Lists.{sum}
 use Rattle.lists.proofs.Tests.{tells}
 use Rattle.lists.proofs.Lists.{all-at, pairwise-with, ordered-unique}
 use Rattle.plan.specs.declared.Shape.{Shape}

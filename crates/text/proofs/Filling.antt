@@ -16,7 +16,7 @@ use Rattle.line.specs.declared.Line.{Line}
 use Rattle.line.specs.declared.Line.TheVariants.{Plan, Layer, Rectangle}
 use Rattle.text.specs.declared.Tally.{Tally}
 use Rattle.text.specs.declared.Decision.{Decision}
-use Rattle.text.specs.Spelling.{inner, all_inner, headed}
+use Rattle.text.specs.Spelling.{inner, all_inner}
 use Rattle.line.specs.Parsing.{next, line}
 use Rattle.text.specs.Parsing.{all_lines, lines_of}
 use Rattle.text.specs.Plans.{cells_in, shape_in, agrees}

@@ -14,7 +14,7 @@ use Rattle.lists.proofs.Tests.{clash, both, and-true, below_all}
 use Rattle.geometry.specs.declared.Rect.{Rect}
 use Rattle.geometry.specs.Rectangles.{in_range}
 use Rattle.plan.specs.declared.Shape.{Shape}
-use Rattle.plan.specs.Plan.{rect_at, count, fits_at, all_fit, all_ranged, plan_cause, Sound}
+use Rattle.plan.specs.Plan.{rect_at, fits_at, all_fit, all_ranged, plan_cause, Sound}
 use Rattle.plan.proofs.Plan.{Checked}
 use Rattle.line.specs.declared.Line.{Line}
 use Rattle.line.specs.declared.Line.TheVariants.{Plan, Layer, Rectangle}

@@ -1,11 +1,8 @@
-use borrow.Author.Tests.{not-true, not-false}
-use mathlib.Core.Path.{◌≡◌, refl, sym, ap, ◌∙◌}
-use mathlib.Core.Bool.{true}
-use Prim.Native.Nat.{◌+◌, ◌-◌, ◌≤◌}
+use mathlib.Core.Path.{refl, sym, ap, ◌∙◌}
+use Prim.Native.Nat.{◌+◌}
 use native.Mathlib.Omega.{arith}
 use Rattle.plan.specs.Plan.{rect_at}
 use Rattle.crossings.specs.ClassCall.{lies}
-use Rattle.crossings.specs.inner.Ends.{all_lie}
 use Rattle.lists.proofs.Tests.{below_more, below-not, below_end}
 use Rattle.crossings_code.proofs.all_lie.Goals as goal
 
@@ -30,7 +27,7 @@ pub loop-i-preserved : goal.loop-i-preserved
 loop-i-preserved c = (
   omega arith,
   below_more (λ p. lies c.args.level (rect_at c.args.cells.now (c.args.start + p))) c.loop-i.i c.loop-i.invariant.1
-      (ap (lies c.args.level) (sym c.rect_at.ensures) ∙ (sym c.is_segment.ensures ∙ not-false _ c.if-not-is_segment.false-raw)),
+      (ap (lies c.args.level) (sym c.rect_at.ensures) ∙ (sym c.is_segment.ensures ∙ c.if-not-is_segment.false)),
 )
 
 pub returns : goal.returns

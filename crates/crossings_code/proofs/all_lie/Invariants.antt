@@ -1,13 +1,9 @@
 -- `crossings_code::all_lie`. The invariant: the rectangles passed are segments. The measure is how many are left.
-use borrow.Author.Tests.{not-true, not-false}
-use mathlib.Core.Path.{◌≡◌, refl, sym, ap, ◌∙◌}
+use mathlib.Core.Path.{◌≡◌}
 use mathlib.Core.Bool.{true}
 use Prim.Native.Nat.{◌+◌, ◌-◌, ◌≤◌}
-use native.Mathlib.Omega.{arith}
 use Rattle.plan.specs.Plan.{rect_at}
-use Rattle.crossings.specs.ClassCall.{lies}
 use Rattle.crossings.specs.inner.Ends.{all_lie}
-use Rattle.lists.proofs.Tests.{below_more, below-not, below_end}
 use Rattle.crossings_code.proofs.all_lie.Given as goal
 
 abbrev pub invariant-loop-i : goal.invariant-loop-i

@@ -1,5 +1,4 @@
 -- `crossings_code::class_told`: the ground of the row tells whether there is one.
-use borrow.Author.Rules.{rules}
 use mathlib.Core.Path.{sym, ◌∙◌}
 use lib.Seq.{length-take-le}
 use Rattle.rows.proofs.Answers.{ground-some}

@@ -4,7 +4,6 @@ use mathlib.Core.Bool.{true, false}
 use Rattle.plan.specs.Plan.{plan_cause, Typed, Sound}
 use Prim.Native.Nat.{◌≤◌}
 use native.Mathlib.Omega.{arith}
-use borrow.Author.Tests.{not-true, not-false}
 use Rattle.plan.proofs.Plan.{checked}
 use Rattle.plan.proofs.Growing.{drawn-framed}
 use Rattle.crossings.proofs.Answers.{cause-plan, cause-layers, cause-margins, cause-segments}
@@ -45,10 +44,10 @@ pub returns-then-is_segmented : goal.returns-then-is_segmented
 returns-then-is_segmented c =
     let sound : plan_cause c.args.shape c.args.cells.now ≡ 0 = sym c.plan_cause-cause.ensures ∙ c.if-cause-ne0.false in
     let three : 3 ≤ c.args.shape.k = c.if-shape-lt3.false in
-    cause-segments _ _ sound three (sym (not-false _ c.if-not-is_unwidened.false-raw) ∙ c.is_unwidened.ensures) true (sym c.if-is_segmented.true ∙ c.is_segmented.ensures)
+    cause-segments _ _ sound three (sym c.if-not-is_unwidened.false ∙ c.is_unwidened.ensures) true (sym c.if-is_segmented.true ∙ c.is_segmented.ensures)
 
 pub returns-else-is_segmented : goal.returns-else-is_segmented
 returns-else-is_segmented c =
     let sound : plan_cause c.args.shape c.args.cells.now ≡ 0 = sym c.plan_cause-cause.ensures ∙ c.if-cause-ne0.false in
     let three : 3 ≤ c.args.shape.k = c.if-shape-lt3.false in
-    cause-segments _ _ sound three (sym (not-false _ c.if-not-is_unwidened.false-raw) ∙ c.is_unwidened.ensures) false (sym c.if-is_segmented.false ∙ c.is_segmented.ensures)
+    cause-segments _ _ sound three (sym c.if-not-is_unwidened.false ∙ c.is_unwidened.ensures) false (sym c.if-is_segmented.false ∙ c.is_segmented.ensures)

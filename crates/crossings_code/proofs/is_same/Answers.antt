@@ -1,5 +1,4 @@
 -- `crossings_code::is_same`: the numbers compare as they do.
-use borrow.Author.Rules.{rules}
 use mathlib.Core.Path.{ap₂}
 use mir.Facts.{to_z-of_z}
 use Rattle.join.specs.Join.{same_z}

@@ -1,12 +1,10 @@
 -- `crossings_code::is_segmented`: layer k - 1, then layer k.
-use borrow.Author.Tests.{not-true, not-false}
 use mathlib.Core.Path.{◌≡◌, sym, ◌∙◌}
 use Prim.Native.Nat.{◌-◌, ◌≤◌}
 use native.Mathlib.Omega.{arith}
 use lib.ListN.{length, take}
 use lib.Seq.{length-take-le}
 use Rattle.crossings.proofs.Reading.{two, layer-inside, segmented-not, segmented-is}
-use borrow.Author.Rules.{rules}
 use Rattle.crossings_code.proofs.is_segmented.Goals as goal
 
 pub slice_bounds-here-end : goal.slice_bounds-here-end
@@ -74,4 +72,4 @@ all_lie-requires-2 c =
     layer-inside c.args.sizes.now c.args.k c.args.cells.now c.requires.0 c.requires.1 (c.args.k - 1) _ (omega (arith, some)) c.sum_of-v.ensures
 
 pub returns : goal.returns
-returns c = segmented-is c.args.sizes.now c.args.k c.args.cells.now c.requires.0 c.requires.1 _ c.sum_of-h.ensures (sym c.all_lie.ensures ∙ not-false _ c.if-not-all_lie.false-raw) _ c.sum_of-v.ensures _ c.all_lie-2.ensures
+returns c = segmented-is c.args.sizes.now c.args.k c.args.cells.now c.requires.0 c.requires.1 _ c.sum_of-h.ensures (sym c.all_lie.ensures ∙ c.if-not-all_lie.false) _ c.sum_of-v.ensures _ c.all_lie-2.ensures

@@ -1,5 +1,4 @@
 -- `crossings_code::is_unwidened`.
-use borrow.Author.Rules.{rules}
 use mathlib.Core.Path.{refl}
 use Rattle.crossings.specs.ClassCall.{unwidened}
 use Rattle.crossings_code.proofs.is_unwidened.Goals as goal

@@ -1,5 +1,4 @@
 -- `crossings_code::rect_in`: the row's place in its layer, which lies behind the rectangles of the earlier ones.
-use borrow.Author.Rules.{rules}
 use mathlib.Core.Path.{◌≡◌, sym, ◌∙◌}
 use mathlib.Core.Bool.{true}
 use native.Mathlib.Omega.{arith}

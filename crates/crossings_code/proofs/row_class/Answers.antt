@@ -1,13 +1,12 @@
-use borrow.Author.Rules.{rules}
 use mathlib.Core.Path.{◌≡◌, sym, ◌∙◌}
-use Prim.Native.Nat.{◌+◌, ◌-◌, ◌*◌, ◌≤◌}
+use Prim.Native.Nat.{◌+◌, ◌*◌, ◌≤◌}
 use native.Mathlib.Omega.{arith}
 use lib.ListN.{length, take}
 use lib.Seq.{length-take-le}
 use Rattle.plan.specs.Plan.{layers_of}
 use Rattle.join.specs.Join.{rects}
 use Rattle.rows_code.specs.Reading.{widened}
-use Rattle.crossings.proofs.Classes.{Seeking, seeking-none, seeking-more, seeking-found, seeking-all, found-small}
+use Rattle.crossings.proofs.Classes.{seeking-none, seeking-more, seeking-found, seeking-all, found-small}
 use Rattle.crossings.proofs.Reading.{row-shares, rects-long}
 use Rattle.crossings_code.proofs.row_class.Goals as goal
 

@@ -1,15 +1,9 @@
 -- `crossings_code::row_class`. The invariant: the first j rectangles cover no end. The measure is how many are left before the segments.
-use borrow.Author.Rules.{rules}
-use mathlib.Core.Path.{◌≡◌, sym, ◌∙◌}
-use Prim.Native.Nat.{◌+◌, ◌-◌, ◌*◌, ◌≤◌}
-use native.Mathlib.Omega.{arith}
-use lib.ListN.{length, take}
-use lib.Seq.{length-take-le}
+use Prim.Native.Nat.{◌-◌}
 use Rattle.plan.specs.Plan.{layers_of}
 use Rattle.join.specs.Join.{rects}
 use Rattle.rows_code.specs.Reading.{widened}
-use Rattle.crossings.proofs.Classes.{Seeking, seeking-none, seeking-more, seeking-found, seeking-all, found-small}
-use Rattle.crossings.proofs.Reading.{row-shares, rects-long}
+use Rattle.crossings.proofs.Classes.{Seeking}
 use Rattle.crossings_code.proofs.row_class.Given as goal
 
 abbrev pub invariant-loop-j : goal.invariant-loop-j

@@ -1,6 +1,5 @@
 -- `floats::apart_by_bits`: below 1 nothing whole, from 1 on the digits over the weight of 1.
 use mathlib.Core.Path.{refl}
-use borrow.Author.Rules.{rules}
 use Rattle.floats.proofs.Patterns.{cut-near, cut-far, one-exact, one-some}
 use Rattle.floats.specs.Parts.{field_of}
 use Rattle.floats.proofs.apart_by_bits.Goals as goal

@@ -5,7 +5,7 @@ use Prim.Native.Nat.{ℕ, ◌≤◌}
 use native.Mathlib.Omega.{arith}
 use mir.Syntax.{w32}
 use mir.ValLaws.{to_z-of_z}
-use borrow.Author.Rules.{rules, sfits_of}
+use borrow.Author.Rules.{sfits_of}
 use Rattle.floats.specs.Parts.{farthest}
 use Rattle.floats.proofs.Patterns.{parts-bound, floor-below, floor-above}
 use Rattle.floats.proofs.floor.Goals as goal

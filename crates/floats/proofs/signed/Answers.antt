@@ -1,5 +1,4 @@
 -- `floats::signed`: the number below 0 is 0 less its size.
-use borrow.Author.Rules.{rules}
 use Rattle.floats.proofs.Patterns.{zero-less-fits, zero-less-is, plain-is}
 use Rattle.floats.proofs.signed.Goals as goal
 

@@ -1,5 +1,4 @@
 -- `geometry_code::in_reach`.
-use borrow.Author.Rules.{rules}
 use mir.Syntax.{w32}
 use mir.Facts.{to_z-of_z}
 use Rattle.geometry.specs.Rectangles.{between}

@@ -1,5 +1,4 @@
 -- `geometry_code::meet`: a common rectangle that holds a point, or not.
-use borrow.Author.Rules.{rules}
 use Rattle.geometry.proofs.Machine.{meet-then, meet-else}
 use Rattle.geometry_code.proofs.meet.Goals as goal
 

@@ -1,5 +1,4 @@
 -- `geometry_code::span`: the smaller number is taken from the larger, and either way the size of the difference is the same.
-use borrow.Author.Rules.{rules}
 use mathlib.Core.Path.{◌∙◌}
 use Rattle.geometry.proofs.Integers.{zarith}
 use Rattle.geometry.proofs.Machine.{span-either, read-span}

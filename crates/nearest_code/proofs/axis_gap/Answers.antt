@@ -1,5 +1,4 @@
 -- `nearest_code::axis_gap`: the second extent lies above, below, or meets the first.
-use borrow.Author.Rules.{rules}
 use mathlib.Core.Path.{◌∙◌}
 use native.Mathlib.Omega.{arith}
 use Rattle.geometry.proofs.Machine.{read-lt, read-span}

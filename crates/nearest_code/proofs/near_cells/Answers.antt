@@ -1,5 +1,4 @@
 -- `nearest_code::near_cells`: a field a cell.
-use borrow.Author.Rules.{rules}
 use Rattle.nearest.proofs.Answers.{cells-made}
 use Rattle.nearest_code.proofs.near_cells.Goals as goal
 

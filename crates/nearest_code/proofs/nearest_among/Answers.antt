@@ -1,14 +1,12 @@
-use borrow.Author.Rules.{rules}
 use mathlib.Core.Path.{◌≡◌, sym, ◌∙◌, ap, subst}
-use mathlib.Core.Logic.{⊎_elim, inl, inr}
-use Prim.Native.Nat.{◌-◌}
+use mathlib.Core.Logic.{inl, inr}
 use native.Mathlib.Omega.{arith}
 use Rattle.geometry.specs.declared.Rect.{Rect}
 use Rattle.geometry.specs.Rectangles.{in_extent}
 use Rattle.plan.specs.Plan.{rect_at}
 use Rattle.nearest.specs.Nearest.{squared_gap, nearest_to}
 use Rattle.nearest.specs.inner.Parts.{Within}
-use Rattle.nearest.proofs.Answers.{near_none, Found, found_first, found-step}
+use Rattle.nearest.proofs.Answers.{near_none, found_first, found-step}
 use Rattle.nearest_code.proofs.nearest_among.Goals as goal
 use Rattle.nearest_code.proofs.nearest_among.Goals.{then-gap-least, else-gap-least}
 

@@ -1,5 +1,4 @@
 -- `nearest_code::nearest_at`: a layer past the last is empty; the cells of one that is there are a part of the plan's.
-use borrow.Author.Rules.{rules}
 use mathlib.Core.Path.{sym, ◌∙◌}
 use Prim.Native.Nat.{◌≤◌, ◌<◌}
 use native.Mathlib.Omega.{arith}

@@ -1,5 +1,4 @@
 -- `nearest_code::nearest_cause`: the plan's causes, and then the box's.
-use borrow.Author.Rules.{rules}
 use mathlib.Core.Path.{sym, ◌∙◌}
 use mathlib.Core.Bool.{true, false}
 use Rattle.nearest.proofs.Answers.{cause-plan, cause-box}

@@ -1,5 +1,4 @@
 -- `nearest_code::nearest_told`: the six layers one after another.
-use borrow.Author.Rules.{rules}
 use mathlib.Core.Path.{sym}
 use lib.ListN.{take}
 use lib.Seq.{length-take-le}

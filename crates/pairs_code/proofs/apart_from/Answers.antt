@@ -1,14 +1,10 @@
-use borrow.Author.Rules.{rules}
 use mathlib.Core.Path.{refl}
-use Prim.Native.Nat.{◌-◌}
 use native.Mathlib.Omega.{arith}
-use lib.ListN.{length}
 use Rattle.geometry.proofs.Rectangles.{meeting-apart, meeting-common}
 use Rattle.rows.proofs.RowCall.{fits-long}
 use Rattle.rows.proofs.Layers.{sum-next}
-use Rattle.rows_code.specs.Reading.{widened}
 use Rattle.rows_code.proofs.Reading.{row-widened, row-widens}
-use Rattle.pairs.proofs.Scanning.{Met, met-more, met-not, met_all}
+use Rattle.pairs.proofs.Scanning.{met-more, met-not, met_all}
 use Rattle.pairs_code.proofs.apart_from.Goals as goal
 
 pub loop-j-init : goal.loop-j-init

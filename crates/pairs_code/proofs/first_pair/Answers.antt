@@ -1,12 +1,8 @@
-use borrow.Author.Rules.{rules}
-use Prim.Native.Nat.{◌-◌}
 use native.Mathlib.Omega.{arith}
-use lib.ListN.{length}
 use Rattle.rows.proofs.RowCall.{fits-long}
 use Rattle.rows.proofs.Layers.{sum-next, reached-next}
-use Rattle.rows_code.specs.Reading.{widened}
 use Rattle.rows_code.proofs.Reading.{row-widened, row-widens}
-use Rattle.pairs.proofs.Scanning.{Paired, paired_none, paired-found, paired-more, paired-end}
+use Rattle.pairs.proofs.Scanning.{paired_none, paired-found, paired-more, paired-end}
 use Rattle.pairs_code.proofs.first_pair.Goals as goal
 
 pub loop-i-init : goal.loop-i-init

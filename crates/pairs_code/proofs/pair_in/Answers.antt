@@ -1,6 +1,4 @@
 -- `pairs_code::pair_in`: places that do not fit, and the first pair of those that do.
-use borrow.Author.Rules.{rules}
-use borrow.Author.Tests.{not-true, not-false}
 use mathlib.Core.Path.{◌≡◌, sym, ◌∙◌}
 use mathlib.Core.Bool.{true}
 use Rattle.rows.specs.RowCall.{fits}
@@ -13,7 +11,7 @@ returns-then-not-all_fit c = told-misfit c.args.sizes.now (widened c.args.sizes.
 
 pub first_pair-requires : goal.first_pair-requires
 first_pair-requires c =
-    let fit : fits c.args.sizes.now c.args.row.now ≡ true = sym c.all_fit.ensures ∙ not-false _ c.if-not-all_fit.false-raw in
+    let fit : fits c.args.sizes.now c.args.row.now ≡ true = sym c.all_fit.ensures ∙ c.if-not-all_fit.false in
     record {
       readable = c.requires;
       row_value = fit;
@@ -21,5 +19,5 @@ first_pair-requires c =
 
 pub returns : goal.returns
 returns c =
-    let fit : fits c.args.sizes.now c.args.row.now ≡ true = sym c.all_fit.ensures ∙ not-false _ c.if-not-all_fit.false-raw in
+    let fit : fits c.args.sizes.now c.args.row.now ≡ true = sym c.all_fit.ensures ∙ c.if-not-all_fit.false in
     told_fit c.args.sizes.now (widened c.args.sizes.now c.args.margins.now c.args.cells.now) c.args.row.now fit _ c.first_pair.ensures

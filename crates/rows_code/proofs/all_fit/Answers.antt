@@ -1,8 +1,6 @@
 use mathlib.Core.Path.{refl, sym}
 use native.Mathlib.Omega.{arith}
-use Prim.Native.Nat.{◌-◌}
-use lib.ListN.{length}
-use Rattle.rows.proofs.RowCall.{Fitting, fits_not, fitting-more, fitting-not, fitting-end}
+use Rattle.rows.proofs.RowCall.{fits_not, fitting-more, fitting-not, fitting-end}
 use Rattle.rows_code.proofs.all_fit.Goals as goal
 
 pub returns-then-row-sizes : goal.returns-then-row-sizes

@@ -1,9 +1,7 @@
 -- `rows_code::all_fit`. The invariant: what is left to test decides as the whole does. The measure is what is left.
-use mathlib.Core.Path.{refl, sym}
-use native.Mathlib.Omega.{arith}
 use Prim.Native.Nat.{◌-◌}
 use lib.ListN.{length}
-use Rattle.rows.proofs.RowCall.{Fitting, fits_not, fitting-more, fitting-not, fitting-end}
+use Rattle.rows.proofs.RowCall.{Fitting}
 use Rattle.rows_code.proofs.all_fit.Given as goal
 
 abbrev pub invariant-loop-j : goal.invariant-loop-j

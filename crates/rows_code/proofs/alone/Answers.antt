@@ -1,5 +1,4 @@
 -- `rows_code::alone`: a rectangle that holds a point meets itself.
-use borrow.Author.Rules.{rules}
 use Rattle.rows.proofs.Grounds.{alone-none, alone-some}
 use Rattle.rows_code.proofs.alone.Goals as goal
 

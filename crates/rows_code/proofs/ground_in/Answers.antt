@@ -1,6 +1,4 @@
 -- `rows_code::ground_in`: cells that do not fit, and what the rectangles of those that do share.
-use borrow.Author.Rules.{rules}
-use borrow.Author.Tests.{not-true, not-false}
 use mathlib.Core.Path.{◌≡◌, sym, ◌∙◌}
 use mathlib.Core.Bool.{true}
 use Rattle.rows.specs.RowCall.{fits}
@@ -13,7 +11,7 @@ returns-then-not-all_fit c = ground-misfit c.args.sizes.now (widened c.args.size
 
 pub share-requires : goal.share-requires
 share-requires c =
-    let fit : fits c.args.sizes.now c.args.row.now ≡ true = sym c.all_fit.ensures ∙ not-false _ c.if-not-all_fit.false-raw in
+    let fit : fits c.args.sizes.now c.args.row.now ≡ true = sym c.all_fit.ensures ∙ c.if-not-all_fit.false in
     record {
       readable = c.requires;
       row_value = fit;
@@ -21,5 +19,5 @@ share-requires c =
 
 pub returns : goal.returns
 returns c =
-    let fit : fits c.args.sizes.now c.args.row.now ≡ true = sym c.all_fit.ensures ∙ not-false _ c.if-not-all_fit.false-raw in
+    let fit : fits c.args.sizes.now c.args.row.now ≡ true = sym c.all_fit.ensures ∙ c.if-not-all_fit.false in
     ground-fit c.args.sizes.now (widened c.args.sizes.now c.args.margins.now c.args.cells.now) c.args.row.now fit _ c.share.ensures

@@ -1,5 +1,4 @@
 -- `rows_code::row_common`: the common rectangle and the kind of what the cells name.
-use borrow.Author.Rules.{rules}
 use mathlib.Core.Path.{◌≡◌, sym, ap, ◌∙◌}
 use Rattle.rows.specs.declared.CommonAnswer.{CommonAnswer}
 use Rattle.rows.specs.RowCall.{common_values}

@@ -1,5 +1,4 @@
 -- `rows_code::row_ground`: no rectangle is grown again.
-use borrow.Author.Rules.{rules}
 use mathlib.Core.Path.{sym}
 use native.Mathlib.Omega.{arith}
 use lib.ListN.{take}

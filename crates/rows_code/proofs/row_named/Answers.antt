@@ -1,5 +1,4 @@
 -- `rows_code::row_named`: the ground of the row, or that there is none.
-use borrow.Author.Rules.{rules}
 use mathlib.Core.Path.{sym, ◌∙◌}
 use native.Mathlib.Omega.{arith}
 use lib.Seq.{length-take-le}

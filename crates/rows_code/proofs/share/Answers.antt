@@ -1,12 +1,9 @@
-use borrow.Author.Rules.{rules}
 use mathlib.Core.Path.{◌≡◌, sym, ◌∙◌}
-use Prim.Native.Nat.{◌-◌}
 use native.Mathlib.Omega.{arith}
 use lib.ListN.{length}
 use Rattle.rows.proofs.RowCall.{fits-long}
 use Rattle.rows.proofs.Layers.{reached-none, sum-next}
-use Rattle.rows.proofs.Grounds.{Through, through-none, through-first, through-more, through-stop, through-last}
-use Rattle.rows_code.specs.Reading.{widened}
+use Rattle.rows.proofs.Grounds.{through-none, through-first, through-more, through-stop, through-last}
 use Rattle.rows_code.proofs.Reading.{row-widened, row-widens}
 use Rattle.rows_code.proofs.share.Goals as goal
 

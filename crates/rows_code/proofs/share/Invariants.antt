@@ -1,15 +1,9 @@
 -- `rows_code::share`. The invariant: from the ground so far, the rectangles of the layers that are left lead to what all of them share.
 -- The measure is the number of layers left.
-use borrow.Author.Rules.{rules}
-use mathlib.Core.Path.{◌≡◌, sym, ◌∙◌}
 use Prim.Native.Nat.{◌-◌}
-use native.Mathlib.Omega.{arith}
 use lib.ListN.{length}
-use Rattle.rows.proofs.RowCall.{fits-long}
-use Rattle.rows.proofs.Layers.{reached-none, sum-next}
-use Rattle.rows.proofs.Grounds.{Through, through-none, through-first, through-more, through-stop, through-last}
+use Rattle.rows.proofs.Grounds.{Through}
 use Rattle.rows_code.specs.Reading.{widened}
-use Rattle.rows_code.proofs.Reading.{row-widened, row-widens}
 use Rattle.rows_code.proofs.share.Given as goal
 
 abbrev pub invariant-loop-j : goal.invariant-loop-j

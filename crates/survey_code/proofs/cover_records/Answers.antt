@@ -3,7 +3,6 @@ use mathlib.Core.Path.{◌≡◌, sym, ◌∙◌}
 use native.Mathlib.Omega.{arith}
 use Rattle.survey.specs.CoverCall.{input_cause}
 use Rattle.survey.proofs.CoverCall.{input-bad, too_many, too_few, layer_fits, covered}
-use borrow.Author.Rules.{rules}
 use Rattle.survey_code.proofs.cover_records.Goals as goal
 
 pub returns-then-cause-ne0 : goal.returns-then-cause-ne0

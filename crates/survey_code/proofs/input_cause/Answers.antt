@@ -2,9 +2,8 @@
 use mathlib.Core.Path.{◌≡◌, sym, ◌∙◌}
 use mathlib.Core.Bool.{true, false}
 use Rattle.survey.specs.Strips.{sound_strip}
-use borrow.Author.Tests.{not-true, not-false}
+use borrow.Author.Tests.{not-false}
 use Rattle.survey.proofs.CoverCall.{across-bad, upward-bad, length-bad, records-tell}
-use borrow.Author.Rules.{rules}
 use Rattle.survey_code.proofs.input_cause.Goals as goal
 
 pub returns-then-not-sound_strip : goal.returns-then-not-sound_strip
@@ -12,23 +11,23 @@ returns-then-not-sound_strip c = across-bad c.args.across c.args.upward _ (sym c
 
 pub returns-then-not-sound_strip-2 : goal.returns-then-not-sound_strip-2
 returns-then-not-sound_strip-2 c =
-    let across-good : sound_strip c.args.across ≡ true = sym c.sound_strip.ensures ∙ not-false _ c.if-not-sound_strip.false-raw in
+    let across-good : sound_strip c.args.across ≡ true = sym c.sound_strip.ensures ∙ c.if-not-sound_strip.false in
     upward-bad c.args.across c.args.upward _ across-good (sym c.sound_strip-2.ensures ∙ c.if-not-sound_strip-2.true)
 
 pub returns-then-corners-ne0 : goal.returns-then-corners-ne0
 returns-then-corners-ne0 c =
-    let across-good : sound_strip c.args.across ≡ true = sym c.sound_strip.ensures ∙ not-false _ c.if-not-sound_strip.false-raw in
-    let upward-good : sound_strip c.args.upward ≡ true = sym c.sound_strip-2.ensures ∙ not-false _ c.if-not-sound_strip-2.false-raw in
+    let across-good : sound_strip c.args.across ≡ true = sym c.sound_strip.ensures ∙ c.if-not-sound_strip.false in
+    let upward-good : sound_strip c.args.upward ≡ true = sym c.sound_strip-2.ensures ∙ c.if-not-sound_strip-2.false in
     length-bad c.args.across c.args.upward _ across-good upward-good c.if-corners-ne0.true
 
 pub returns-then-all_sound : goal.returns-then-all_sound
 returns-then-all_sound c =
-    let across-good : sound_strip c.args.across ≡ true = sym c.sound_strip.ensures ∙ not-false _ c.if-not-sound_strip.false-raw in
-    let upward-good : sound_strip c.args.upward ≡ true = sym c.sound_strip-2.ensures ∙ not-false _ c.if-not-sound_strip-2.false-raw in
+    let across-good : sound_strip c.args.across ≡ true = sym c.sound_strip.ensures ∙ c.if-not-sound_strip.false in
+    let upward-good : sound_strip c.args.upward ≡ true = sym c.sound_strip-2.ensures ∙ c.if-not-sound_strip-2.false in
     records-tell c.args.across c.args.upward _ across-good upward-good true c.if-corners-ne0.false (sym c.if-all_sound.true ∙ c.all_sound.ensures)
 
 pub returns-else-all_sound : goal.returns-else-all_sound
 returns-else-all_sound c =
-    let across-good : sound_strip c.args.across ≡ true = sym c.sound_strip.ensures ∙ not-false _ c.if-not-sound_strip.false-raw in
-    let upward-good : sound_strip c.args.upward ≡ true = sym c.sound_strip-2.ensures ∙ not-false _ c.if-not-sound_strip-2.false-raw in
+    let across-good : sound_strip c.args.across ≡ true = sym c.sound_strip.ensures ∙ c.if-not-sound_strip.false in
+    let upward-good : sound_strip c.args.upward ≡ true = sym c.sound_strip-2.ensures ∙ c.if-not-sound_strip-2.false in
     records-tell c.args.across c.args.upward _ across-good upward-good false c.if-corners-ne0.false (sym c.if-all_sound.false ∙ c.all_sound.ensures)

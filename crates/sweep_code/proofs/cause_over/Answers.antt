@@ -1,5 +1,4 @@
 -- `sweep_code::cause_over`.
-use borrow.Author.Rules.{rules}
 use mathlib.Core.Path.{sym, ap, ◌∙◌}
 use mathlib.Core.Bool.{Bool}
 use Rattle.plan.specs.Causes.{unless}

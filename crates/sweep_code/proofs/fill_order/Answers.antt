@@ -1,5 +1,4 @@
 -- `sweep_code::fill_order`: the plan as it is drawn, or grown.
-use borrow.Author.Rules.{rules}
 use mathlib.Core.Path.{sym, ap, ◌∙◌}
 use Prim.Native.Nat.{ℕ, ◌/◌}
 use native.Mathlib.Omega.{arith}

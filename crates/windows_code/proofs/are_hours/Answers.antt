@@ -1,10 +1,7 @@
 use native.Mathlib.Omega.{arith}
-use Prim.Native.Nat.{◌≤◌, ◌-◌}
-use mathlib.Core.Path.{◌≡◌, refl, sym, ap, ◌∙◌}
-use mathlib.Core.Bool.{true}
-use borrow.Author.Tests.{not-true, not-false}
+use mathlib.Core.Path.{refl, sym, ap, ◌∙◌}
 use Rattle.lists.proofs.Tests.{below_more}
-use Rattle.windows.specs.Windows.{window_at, is_window, all_windows}
+use Rattle.windows.specs.Windows.{window_at, is_window}
 use Rattle.windows.proofs.Windows.{hours-short, hours-not, hours-end}
 use Rattle.windows_code.proofs.are_hours.Goals as goal
 
@@ -21,7 +18,7 @@ pub returns-then-not-is_window : goal.returns-then-not-is_window
 returns-then-not-is_window c = hours-not _ _ c.if-hours-n.false c.loop-i.i c.loop-i-test.true (ap is_window (sym c.window_at.ensures) ∙ (sym c.is_window.ensures ∙ c.if-not-is_window.true))
 
 pub loop-i-preserved : goal.loop-i-preserved
-loop-i-preserved c = (omega arith, below_more (λ j. is_window (window_at c.args.hours.now j)) _ c.loop-i.invariant.1 (ap is_window (sym c.window_at.ensures) ∙ (sym c.is_window.ensures ∙ not-false _ c.if-not-is_window.false-raw)))
+loop-i-preserved c = (omega arith, below_more (λ j. is_window (window_at c.args.hours.now j)) _ c.loop-i.invariant.1 (ap is_window (sym c.window_at.ensures) ∙ (sym c.is_window.ensures ∙ c.if-not-is_window.false)))
 
 pub returns : goal.returns
 returns c = hours-end _ _ c.if-hours-n.false _ c.loop-i.invariant.1 c.loop-i.invariant.0 c.loop-i-test.false

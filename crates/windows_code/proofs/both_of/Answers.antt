@@ -1,5 +1,4 @@
 -- `windows_code::both_of`.
-use borrow.Author.Rules.{rules}
 use Rattle.windows_code.proofs.both_of.Goals as goal
 
 pub returns : goal.returns

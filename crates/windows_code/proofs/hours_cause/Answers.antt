@@ -1,5 +1,4 @@
 -- `windows_code::hours_cause`: a case for each check, with what the checks before it found.
-use borrow.Author.Rules.{rules}
 use mathlib.Core.Path.{sym, ◌∙◌}
 use mathlib.Core.Bool.{true, false}
 use Rattle.windows.proofs.Windows.{hours-first, hours-second}

@@ -1,10 +1,7 @@
-use borrow.Author.Rules.{rules}
-use Prim.Native.Nat.{◌-◌}
 use native.Mathlib.Omega.{arith}
-use lib.ListN.{length}
 use Rattle.rows.proofs.RowCall.{fits-long}
 use Rattle.rows.proofs.Layers.{sum-next}
-use Rattle.windows.proofs.Rowwise.{Sharing, first-there, sharing-first, next-there, sharing-more, sharing-end}
+use Rattle.windows.proofs.Rowwise.{first-there, sharing-first, next-there, sharing-more, sharing-end}
 use Rattle.windows_code.proofs.minutes_in.Goals as goal
 
 pub bounds-row-0 : goal.bounds-row-0

@@ -1,10 +1,7 @@
 -- `plan_code::checks::all_fit`. The invariant: what is left to test decides as the whole does.
-use native.Mathlib.Omega.{arith}
 use Prim.Native.Nat.{◌-◌}
 use lib.ListN.{length}
-use mathlib.Core.Path.{refl, sym, ◌∙◌}
-use borrow.Author.Tests.{not-true, not-false}
-use Rattle.plan.proofs.Plan.{Fitted, fitted-more, fitted-not, fitted-end}
+use Rattle.plan.proofs.Plan.{Fitted}
 use Rattle.plan_code.proofs.checks.all_fit.Given as goal
 
 abbrev pub invariant-loop-j : goal.invariant-loop-j

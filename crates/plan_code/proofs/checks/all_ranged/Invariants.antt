@@ -1,12 +1,8 @@
 -- `plan_code::checks::all_ranged`. The invariant: the rectangles passed are in range.
-use native.Mathlib.Omega.{arith}
 use Prim.Native.Nat.{◌≤◌, ◌-◌}
-use mathlib.Core.Path.{◌≡◌, refl, sym, ap, ◌∙◌}
+use mathlib.Core.Path.{◌≡◌}
 use mathlib.Core.Bool.{true}
-use borrow.Author.Tests.{not-true, not-false}
-use Rattle.lists.proofs.Tests.{below_more, below-not, below_end}
-use Rattle.geometry.specs.Rectangles.{in_range}
-use Rattle.plan.specs.Plan.{rect_at, all_ranged}
+use Rattle.plan.specs.Plan.{all_ranged}
 use Rattle.plan_code.proofs.checks.all_ranged.Given as goal
 
 abbrev pub invariant-loop-i : goal.invariant-loop-i

@@ -1,5 +1,4 @@
 -- `plan_code::checks::plan_cause`: a case for each check, with what the checks before it found.
-use borrow.Author.Rules.{rules}
 use Prim.Native.Nat.{ℕ, ◌*◌}
 use mathlib.Core.Path.{◌≡◌, sym, ap, ◌∙◌}
 use mathlib.Core.Bool.{true, false}

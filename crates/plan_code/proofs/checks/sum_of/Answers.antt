@@ -1,7 +1,5 @@
 use native.Mathlib.Omega.{arith}
-use Prim.Native.Nat.{◌-◌}
-use lib.ListN.{length}
-use Rattle.plan.proofs.Plan.{Summed, summed-more, summed-end}
+use Rattle.plan.proofs.Plan.{summed-more, summed-end}
 use Rattle.plan_code.proofs.checks.sum_of.Goals as goal
 
 pub loop-j-init : goal.loop-j-init

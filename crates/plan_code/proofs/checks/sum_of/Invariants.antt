@@ -1,8 +1,7 @@
 -- `plan_code::checks::sum_of`. The invariant: the sum so far and the sizes that are left add up to the whole.
-use native.Mathlib.Omega.{arith}
 use Prim.Native.Nat.{◌-◌}
 use lib.ListN.{length}
-use Rattle.plan.proofs.Plan.{Summed, summed-more, summed-end}
+use Rattle.plan.proofs.Plan.{Summed}
 use Rattle.plan_code.proofs.checks.sum_of.Given as goal
 
 abbrev pub invariant-loop-j : goal.invariant-loop-j

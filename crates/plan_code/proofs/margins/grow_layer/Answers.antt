@@ -1,9 +1,7 @@
 use native.Mathlib.Omega.{arith}
-use Prim.Native.Nat.{◌-◌}
 use mathlib.Core.Path.{ap, ◌∙◌}
 use Rattle.geometry.specs.Rectangles.{in_range, grown_by}
-use Rattle.plan.specs.Plan.{rect_at}
-use Rattle.plan.proofs.Growing.{Enlarged, enlarged-none, enlarged-room, enlarged-more, enlarged-all}
+use Rattle.plan.proofs.Growing.{enlarged-none, enlarged-room, enlarged-more, enlarged-all}
 use Rattle.plan_code.proofs.margins.grow_layer.Goals as goal
 
 pub loop-p-init : goal.loop-p-init

@@ -1,10 +1,7 @@
 -- `plan_code::margins::grow_layer`. The invariant: what is put, and the rectangles that are left, give the whole layer.
-use native.Mathlib.Omega.{arith}
 use Prim.Native.Nat.{◌-◌}
-use mathlib.Core.Path.{ap, ◌∙◌}
-use Rattle.geometry.specs.Rectangles.{in_range, grown_by}
 use Rattle.plan.specs.Plan.{rect_at}
-use Rattle.plan.proofs.Growing.{Enlarged, enlarged-none, enlarged-room, enlarged-more, enlarged-all}
+use Rattle.plan.proofs.Growing.{Enlarged}
 use Rattle.plan_code.proofs.margins.grow_layer.Given as goal
 
 abbrev pub invariant-loop-p : goal.invariant-loop-p

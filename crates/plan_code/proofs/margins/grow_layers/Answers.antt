@@ -1,10 +1,10 @@
 use native.Mathlib.Omega.{arith}
 use mathlib.Core.Path.{◌≡◌}
-use Prim.Native.Nat.{◌+◌, ◌-◌, ◌≤◌, ◌<◌}
+use Prim.Native.Nat.{◌+◌, ◌≤◌, ◌<◌}
 use lib.ListN.{length, get_or, take}
 use lib.Seq.{length-take-le, get_or-take}
 use Rattle.lists.specs.Lists.{sum}
-use Rattle.plan.proofs.Growing.{Spread, spread_none, spread-within, spread-room, spread-more, spread-all, part-reach, get-small}
+use Rattle.plan.proofs.Growing.{spread_none, spread-within, spread-room, spread-more, spread-all, part-reach, get-small}
 use Rattle.plan_code.proofs.margins.grow_layers.Goals as goal
 
 pub loop-j-init : goal.loop-j-init

@@ -1,11 +1,7 @@
 -- `plan_code::margins::grow_layers`. The invariant: what is put, and the layers that are left, give the whole plan.
-use native.Mathlib.Omega.{arith}
-use mathlib.Core.Path.{◌≡◌}
-use Prim.Native.Nat.{◌+◌, ◌-◌, ◌≤◌, ◌<◌}
-use lib.ListN.{length, get_or, take}
-use lib.Seq.{length-take-le, get_or-take}
-use Rattle.lists.specs.Lists.{sum}
-use Rattle.plan.proofs.Growing.{Spread, spread_none, spread-within, spread-room, spread-more, spread-all, part-reach, get-small}
+use Prim.Native.Nat.{◌-◌}
+use lib.ListN.{take}
+use Rattle.plan.proofs.Growing.{Spread}
 use Rattle.plan_code.proofs.margins.grow_layers.Given as goal
 
 abbrev pub invariant-loop-j : goal.invariant-loop-j

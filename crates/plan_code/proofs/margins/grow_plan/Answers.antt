@@ -1,5 +1,4 @@
 -- `plan_code::margins::grow_plan`.
-use borrow.Author.Rules.{rules}
 use Rattle.plan.proofs.Growing.{growable, grown-put}
 use Rattle.plan_code.proofs.margins.grow_plan.Goals as goal
 

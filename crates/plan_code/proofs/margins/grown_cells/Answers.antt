@@ -1,5 +1,4 @@
 -- `plan_code::margins::grown_cells`: the part of the run that `grow_plan` has put.
-use borrow.Author.Rules.{rules}
 use Rattle.plan.proofs.Growing.{part-long}
 use Rattle.plan_code.proofs.Drawn.{as-grown}
 use Rattle.plan_code.proofs.margins.grown_cells.Goals as goal

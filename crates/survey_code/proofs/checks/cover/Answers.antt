@@ -3,7 +3,7 @@ use mir.Syntax.{w32}
 use mathlib.Core.Path.{◌∙◌}
 use mir.Facts.{to_z-of_z}
 use Rattle.survey.specs.Records.{cover_of}
-use borrow.Author.Rules.{rules, sfits_of}
+use borrow.Author.Rules.{sfits_of}
 use Rattle.geometry.proofs.Machine.{rect-eq}
 use Rattle.survey_code.proofs.checks.cover.Goals as goal
 

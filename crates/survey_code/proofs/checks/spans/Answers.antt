@@ -1,7 +1,6 @@
 -- `survey_code::checks::spans`: three tests, one after the other.
 use mathlib.Core.Path.{sym, ◌∙◌}
-use borrow.Author.Tests.{not-true, not-false}
-use borrow.Author.Rules.{rules}
+use borrow.Author.Tests.{not-false}
 use Rattle.survey_code.proofs.checks.spans.Goals as goal
 
 pub returns-then-not-is_near : goal.returns-then-not-is_near
@@ -9,12 +8,12 @@ returns-then-not-is_near c = let e = sym c.is_near.ensures ∙ c.if-not-is_near.
 
 pub returns-then-not-is_near-2 : goal.returns-then-not-is_near-2
 returns-then-not-is_near-2 c =
-    let e = sym c.is_near.ensures ∙ not-false _ c.if-not-is_near.false-raw in
+    let e = sym c.is_near.ensures ∙ c.if-not-is_near.false in
     let f = sym c.is_near-2.ensures ∙ c.if-not-is_near-2.true in
     rw (e, f)
 
 pub returns : goal.returns
 returns c =
-    let e = sym c.is_near.ensures ∙ not-false _ c.if-not-is_near.false-raw in
-    let f = sym c.is_near-2.ensures ∙ not-false _ c.if-not-is_near-2.false-raw in
+    let e = sym c.is_near.ensures ∙ c.if-not-is_near.false in
+    let f = sym c.is_near-2.ensures ∙ c.if-not-is_near-2.false in
     rw (e, f)

@@ -2,7 +2,6 @@
 use mathlib.Core.Path.{sym, ◌∙◌}
 use Rattle.survey.proofs.Covers.{sound-near}
 use Rattle.survey.proofs.Records.{room-kept, put-yes, put-no}
-use borrow.Author.Rules.{rules}
 use Rattle.survey_code.proofs.fill.put_if_kept.Goals as goal
 
 pub cover-requires : goal.cover-requires

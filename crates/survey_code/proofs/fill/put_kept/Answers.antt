@@ -1,6 +1,4 @@
-use Prim.Native.Nat.{◌-◌}
-use native.Mathlib.Omega.{arith}
-use Rattle.survey.proofs.Records.{Filling, filling-none, filling-fits, filling-more, filling-end}
+use Rattle.survey.proofs.Records.{filling-none, filling-fits, filling-more, filling-end}
 use Rattle.survey_code.proofs.fill.put_kept.Goals as goal
 
 pub loop-i-init : goal.loop-i-init

@@ -1,7 +1,6 @@
 -- `survey_code::fill::put_kept`. The invariant: what is left to be put gives the whole.
 use Prim.Native.Nat.{◌-◌}
-use native.Mathlib.Omega.{arith}
-use Rattle.survey.proofs.Records.{Filling, filling-none, filling-fits, filling-more, filling-end}
+use Rattle.survey.proofs.Records.{Filling}
 use Rattle.survey_code.proofs.fill.put_kept.Given as goal
 
 abbrev pub invariant-loop-i : goal.invariant-loop-i

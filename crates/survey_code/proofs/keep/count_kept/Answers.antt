@@ -1,8 +1,7 @@
 use mathlib.Core.Path.{ap, ◌∙◌}
-use Prim.Native.Nat.{◌-◌}
 use native.Mathlib.Omega.{arith}
 use Rattle.survey.specs.Records.{kept_by}
-use Rattle.survey.proofs.Records.{Counting, counting-none, counting_more, counting-end}
+use Rattle.survey.proofs.Records.{counting-none, counting_more, counting-end}
 use Rattle.survey_code.proofs.keep.count_kept.Goals as goal
 
 pub loop-i-init : goal.loop-i-init

@@ -1,9 +1,6 @@
 -- `survey_code::keep::count_kept`. The invariant: those counted and those kept of what is left are all.
-use mathlib.Core.Path.{ap, ◌∙◌}
 use Prim.Native.Nat.{◌-◌}
-use native.Mathlib.Omega.{arith}
-use Rattle.survey.specs.Records.{kept_by}
-use Rattle.survey.proofs.Records.{Counting, counting-none, counting_more, counting-end}
+use Rattle.survey.proofs.Records.{Counting}
 use Rattle.survey_code.proofs.keep.count_kept.Given as goal
 
 abbrev pub invariant-loop-i : goal.invariant-loop-i

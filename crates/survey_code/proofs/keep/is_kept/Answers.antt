@@ -1,7 +1,6 @@
 -- `survey_code::keep::is_kept`: one axis, then the other.
 use mathlib.Core.Path.{sym, ◌∙◌}
 use Rattle.survey.specs.Records.{kept_by}
-use borrow.Author.Rules.{rules}
 use Rattle.survey_code.proofs.keep.is_kept.Goals as goal
 
 pub returns-then-meets_strip : goal.returns-then-meets_strip

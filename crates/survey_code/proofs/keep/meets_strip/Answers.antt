@@ -1,5 +1,4 @@
 -- `survey_code::keep::meets_strip`: by the kind of strip.
-use borrow.Author.Rules.{rules}
 use Rattle.survey_code.proofs.keep.meets_strip.Goals as goal
 
 pub returns-in-From : goal.returns-in-From
