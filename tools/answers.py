@@ -113,7 +113,7 @@ def as_record(e, names, lemmas=()):
                 rest = re.sub(rf"(?<![^{SEP}]){re.escape(d[1])}(?![^{SEP}])", lambda x: m[2], d[2])
                 break
         else:
-            parts = [rest.strip()] * len(names) if rest.strip().startswith("absurd ") else []
+            parts = [rest.strip()] * len(names) if rest.strip().startswith(("absurd ", "search (")) else []
             for i in range(0 if parts else len(names)):
                 parts.append(f"({rest.strip()})" + "".join(".1" for _ in range(i)) + (".0" if i < len(names) - 1 else ""))
             inner = ";\n".join(f"      {n} = {p}" for n, p in zip(names, parts))
