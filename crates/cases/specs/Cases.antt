@@ -4,7 +4,6 @@ use Rattle.std.specs.Prelude.{◌≡◌, false, List, [], ◌∷◌, ◌++◌, m
 use Rattle.std.proofs.Math.Option.{none, some}
 use Prim.Native.Char.{code}
 use Prim.Native.String.{String}
-use Prim.Native.String as String
 use Rattle.lists.specs.Lists.{All}
 use Rattle.totals.specs.Totals.{total_of, value_of}
 use Rattle.geometry.specs.declared.Rect.{Rect}

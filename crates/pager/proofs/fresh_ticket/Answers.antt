@@ -1,5 +1,4 @@
 -- `pager::fresh_ticket`: a refusal, or the ticket of the whole walk and a counter of 0.
-use borrow.Author.Rules.{rules}
 use Rattle.pager.proofs.Calls.{fresh_refused, fresh-long, fresh-made}
 use Rattle.pager.proofs.fresh_ticket.Goals as goal
 

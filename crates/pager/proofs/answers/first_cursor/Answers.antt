@@ -1,5 +1,4 @@
 -- `pager::answers::first_cursor`: the cursor where the walk begins.
-use borrow.Author.Rules.{rules}
 use mathlib.Core.Path.{ap, ◌∙◌}
 use Rattle.paging.specs.Cursors.{due_cursor}
 use Rattle.slots.specs.Frames.{frame_sizes}

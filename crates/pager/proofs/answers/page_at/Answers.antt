@@ -1,5 +1,4 @@
 -- `pager::answers::page_at`: the position that the cursor names, or none; then the counter.
-use borrow.Author.Rules.{rules}
 use borrow.Author.Tests.{not-true, not-false}
 use mathlib.Core.Path.{sym, ◌∙◌}
 use Rattle.pager.proofs.Counting.{passing}

@@ -1,5 +1,4 @@
 -- `pager::answers::page_from`: the page loop, told as a page.
-use borrow.Author.Rules.{rules}
 use native.Mathlib.Nat.{le_refl}
 use native.Mathlib.Omega.{arith}
 use Prim.Native.Nat.{◌≤◌}

@@ -1,5 +1,4 @@
 -- `pager::answers::plain_cause`: that of a walk, which is not timed.
-use borrow.Author.Rules.{rules}
 use mathlib.Core.List.{[], ◌∷◌}
 use mathlib.Core.Path.{◌∙◌}
 use Rattle.lists.proofs.Tests.{clash}

@@ -1,5 +1,4 @@
 -- `pager::answers::plain_page`: that of a walk, which is not timed.
-use borrow.Author.Rules.{rules}
 use mathlib.Core.List.{[], ◌∷◌}
 use Rattle.lists.proofs.Tests.{clash}
 use Rattle.pager.proofs.Calls.{plain-paged}

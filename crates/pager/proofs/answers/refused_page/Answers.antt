@@ -1,5 +1,4 @@
 -- `pager::answers::refused_page`.
-use borrow.Author.Rules.{rules}
 use Rattle.pager.proofs.answers.refused_page.Goals as goal
 
 pub returns : goal.returns

@@ -1,5 +1,4 @@
 -- `pager::answers::ticket_cause`: the position that the cursor names, or none; then the counter.
-use borrow.Author.Rules.{rules}
 use borrow.Author.Tests.{not-true, not-false}
 use mathlib.Core.Path.{sym, ◌∙◌}
 use Rattle.pager.proofs.Answering.{cause-lost, cause-stale, cause-none}

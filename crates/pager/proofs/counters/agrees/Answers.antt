@@ -1,5 +1,4 @@
 -- `pager::counters::agrees`: one cell, below 2^57, the ticket's count.
-use borrow.Author.Rules.{rules}
 use Rattle.pager.proofs.Counting.{other-long, too-high, compared}
 use Rattle.pager.proofs.counters.agrees.Goals as goal
 

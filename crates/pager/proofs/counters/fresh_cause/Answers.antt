@@ -1,5 +1,4 @@
 -- `pager::counters::fresh_cause`: an earlier cause, then the counter's length.
-use borrow.Author.Rules.{rules}
 use mathlib.Core.Path.{refl}
 use Rattle.plan.proofs.Plan.{or-else-first}
 use Rattle.pager.proofs.Counting.{fresh-long, fresh-none}

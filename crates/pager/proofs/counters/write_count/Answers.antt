@@ -1,5 +1,4 @@
 -- `pager::counters::write_count`.
-use borrow.Author.Rules.{rules}
 use Rattle.pager.proofs.Counting.{written}
 use Rattle.pager.proofs.counters.write_count.Goals as goal
 

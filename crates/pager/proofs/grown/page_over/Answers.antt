@@ -1,6 +1,5 @@
 -- `pager::grown::page_over`: a refusal by 5, or the page at the ticket.
 use borrow.Author.Rules.{rules}
-use borrow.Author.Tests.{not-true, not-false}
 use native.Mathlib.Omega.{arith}
 use Rattle.plan.specs.Plan.{Typed}
 use Rattle.slots.proofs.Frames.{framing-over}

@@ -1,5 +1,4 @@
 -- `pager::grown::refused_first`.
-use borrow.Author.Rules.{rules}
 use mathlib.Core.Path.{ap}
 use Prim.Native.Nat.{ℕ}
 use Rattle.paging.specs.declared.Cursor.{Cursor}
