@@ -1,0 +1,18 @@
+-- `around_of`: side by side.
+use borrow.Author.Rules.{rules, sfits_of}
+use Rattle.geometry.proofs.Machine.{read-back₂, rect-eq, Fitting}
+use Rattle.geometry.specs.Rectangles.{min_z, max_z}
+use Rattle.picture.specs.Frames.{around}
+use Rattle.picture_code.proofs.frames.around_of.Goals as goal
+
+pub returns : goal.returns
+unfolding around
+returns c =
+    let fits-a : Fitting c.args.a = search rules in
+    let fits-b : Fitting c.args.b = search rules in
+    let a = fits-a in
+    let b = fits-b in
+    rect-eq (read-back₂ min_z (sfits_of c.min_of.type_inv) a.left b.left c.min_of.ensures)
+    (read-back₂ min_z (sfits_of c.min_of-2.type_inv) a.bottom b.bottom c.min_of-2.ensures)
+    (read-back₂ max_z (sfits_of c.max_of.type_inv) a.right b.right c.max_of.ensures)
+    (read-back₂ max_z (sfits_of c.max_of-2.type_inv) a.top b.top c.max_of-2.ensures)

@@ -1,0 +1,16 @@
+-- `corners_of`: each number is read back.
+use mathlib.Core.Path.{refl}
+use Rattle.geometry.proofs.Machine.{Fitting}
+use Rattle.picture.proofs.Signs.{coordinate-is, ◌then◌}
+use borrow.Author.Rules.{rules, sfits_of}
+use Rattle.picture_code.proofs.numbers.corners_of.Goals as goal
+
+pub returns : goal.returns
+returns c =
+    let fits : Fitting c.args.r = search rules in
+    let f = fits in
+    (coordinate-is (sfits_of c.wide.type_inv) f.left c.wide.ensures)
+    then ((coordinate-is (sfits_of c.wide-2.type_inv) f.bottom c.wide-2.ensures)
+    then ((coordinate-is (sfits_of c.wide-3.type_inv) f.right c.wide-3.ensures)
+    then ((coordinate-is (sfits_of c.wide-4.type_inv) f.top c.wide-4.ensures)
+    then ((coordinate-is (sfits_of c.wide-5.type_inv) f.left c.wide-5.ensures) then refl))))
