@@ -1,0 +1,32 @@
+use Prim.Native.Nat.{ℕ, ◌-◌}
+use mathlib.Core.List.{List, [], ◌∷◌}
+use lib.ListN.{take}
+use Rattle.plan.specs.Plan.{layers_of}
+use Rattle.crossings.specs.Crossings.{class_in}
+use Rattle.listing.proofs.Rows.{Unlisted, none-listed, next-there, next-is, next-room, next-listed, all_listed}
+use borrow.Author.Rules.{rules}
+use native.Mathlib.Omega.{arith}
+use Rattle.listing_runs_code.proofs.class_lines.put_class_rows.Goals as goal
+
+pub loop-i-init : goal.loop-i-init
+loop-i-init c = search none-listed
+
+pub row_at-requires : goal.row_at-requires
+row_at-requires c = search (rules, next-there)
+
+pub put_classed-at-requires : goal.put_classed-at-requires
+put_classed-at-requires c =
+    record {
+      k_in_bounds = search (rules, next-is, next-room);
+      row_value = search (rules, next-is, next-room);
+      fits_at = search (rules, next-is, next-room);
+    }
+
+pub loop-i-preserved : goal.loop-i-preserved
+loop-i-preserved c = search (rules, next-listed)
+
+pub shape_of-buf : goal.shape_of-buf
+shape_of-buf c = c.loop-i.invariant.left.long
+
+pub returns : goal.returns
+returns c = search (rules, all_listed)

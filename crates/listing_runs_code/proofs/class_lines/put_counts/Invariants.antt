@@ -1,0 +1,13 @@
+-- `put_counts` puts class after class. The loop's invariant: those from i on are left. The measure is how many they are.
+use Prim.Native.Nat.{◌-◌}
+use lib.ListN.{length}
+use Rattle.listing.proofs.Counts.{Uncounted, none-counted, next-count-room, next-counted, all-counted}
+use borrow.Author.Rules.{rules}
+use native.Mathlib.Omega.{arith}
+use Rattle.listing_runs_code.proofs.class_lines.put_counts.Given as goal
+
+abbrev pub invariant-loop-i : goal.invariant-loop-i
+invariant-loop-i l = Uncounted l.initial.buf l.from l.counts l.buf l.at l.i
+
+abbrev pub decreases-loop-i : goal.decreases-loop-i
+decreases-loop-i l = length l.counts - l.i

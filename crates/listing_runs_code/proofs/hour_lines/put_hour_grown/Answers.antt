@@ -1,0 +1,36 @@
+-- `put_hour_grown` puts the lines of the grown plan's rows.
+use mathlib.Core.Path.{sym, ap, subst}
+use mathlib.Core.List.{List, ◌++◌}
+use Prim.Native.Nat.{ℕ}
+use lib.IntN.{ℤ}
+use Rattle.totals.specs.declared.Total.{Total}
+use Rattle.plan.specs.declared.Shape.{Shape}
+use Rattle.plan.specs.Plan.{layers_of, sizes_of}
+use Rattle.plan.proofs.Growing.{part-long}
+use Rattle.rows.specs.Tables.{rows_in}
+use Rattle.rows.specs.inner.TableRows.{TableRows}
+use Rattle.printing.specs.Lines.{total_line}
+use Rattle.printing.specs.inner.Parts.{FitsAt}
+use Rattle.printing.proofs.Puts.{put_same}
+use Rattle.listing.specs.Hours.{hour_lines}
+use borrow.Author.Rules.{rules}
+use Rattle.listing_runs_code.proofs.hour_lines.put_hour_grown.Goals as goal
+
+-- what is put, of these cells
+abbrev lines : Shape → List ℤ → (hours table : List ℕ) → (rows probes : ℕ) → Total → List ℕ
+lines s l hours table rows probes total = hour_lines (sizes_of s) hours (layers_of (sizes_of s) l) (rows_in s.k rows table) ++ total_line rows probes total
+
+pub slice_bounds-put_hour_table-end-2 : goal.slice_bounds-put_hour_table-end-2
+slice_bounds-put_hour_table-end-2 c = part-long _ _ _ c.grow_plan.ensures
+
+pub put_hour_table-requires : goal.put_hour_table-requires
+put_hour_table-requires c =
+    let e = sym c.grow_plan.ensures.is in record {
+      table_rows = (subst (λ (l : List ℤ). TableRows c.args.shape.sizes c.args.shape.k l c.args.table.now c.args.rows) e c.requires.sound.1, c.requires.sound.2, c.requires.sound.3);
+      fits_at = subst (λ (l : List ℤ). FitsAt c.args.out.now 0 (lines c.args.shape l c.args.hours.now c.args.table.now c.args.rows c.args.probes c.args.total)) e c.requires.fits_at;
+    }
+
+pub returns : goal.returns
+returns c =
+    put_same _ _ _ _ _ _ c.put_hour_table.ensures
+    (ap (λ (l : List ℤ). lines c.args.shape l c.args.hours.now c.args.table.now c.args.rows c.args.probes c.args.total) (sym c.grow_plan.ensures.is))

@@ -1,0 +1,15 @@
+-- `hours_in` refuses a text that has no plan, and reports on that of any other.
+use Rattle.listing.specs.Hours.{plan_hours}
+use Rattle.outcomes.proofs.Outcomes.{told_same}
+use Rattle.listing.proofs.Plans.{said-refused, said-plan, prepared-ready}
+use borrow.Author.Rules.{rules}
+use Rattle.listing_runs_code.proofs.hours_in.Goals as goal
+
+pub returns-then-reading-ne0 : goal.returns-then-reading-ne0
+returns-then-reading-ne0 c = search (rules, told_same, said-refused)
+
+pub hours_lent-requires : goal.hours_lent-requires
+hours_lent-requires c = search (rules, prepared-ready)
+
+pub returns : goal.returns
+returns c = told_same _ _ _ _ _ _ _ c.hours_lent.ensures (said-plan (plan_hours c.args.windows.now) c.args.text.now _ _ _ c.prepare-reading.ensures c.if-reading-ne0.false)
