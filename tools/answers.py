@@ -367,7 +367,7 @@ def convert(path, crate, names, all_src, fn=None, text=None, key=None, prefix=""
             m = None
             for x in re.finditer(rf"let ([^{SEP}]+) = (c(?:\.[^{SEP}]+)+) in\s*", e):
                 steps = x[2].split(".")[1:]
-                if len(steps) == 1 and steps[0] not in ("fits", "ranges") or len(steps) == 2 and steps[1] in ("auto", "kept", "new", "last") or in_cycle and steps in (["requires", "1"], ["pre", "1"]):
+                if len(steps) == 1 and steps[0] not in ("fits", "ranges") or len(steps) == 2 and steps[1] in ("auto", "kept", "new", "last") or len(steps) == 2 and steps[1] == "ensures" and labels.get(norm(steps[0])) in callee or in_cycle and steps in (["requires", "1"], ["pre", "1"]):
                     m = x
                     break
             if not m:
