@@ -26,4 +26,4 @@ refused_report cause = record { run = Refused cause; counts = replicate 17 0 }
 -- the report on a run's answer
 abbrev pub report_on : Shape → List ℤ → Run → CrossingReport
 report_on s cells (Refused cause) = refused_report cause
-report_on s cells (Done rows probes area ground) = record { run = Done rows probes area ground; counts = class_counts (layers s cells) (overlay s cells).table }
+report_on s cells (Done rows probes area shared) = record { run = Done rows probes area shared; counts = class_counts (layers s cells) (overlay s cells).table }
