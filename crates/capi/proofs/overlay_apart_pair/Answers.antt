@@ -1,5 +1,4 @@
 -- `capi::overlay_apart_pair`: number and cells are those of the values.
-use borrow.Author.Rules.{rules}
 use mathlib.Core.Path.{ap, ◌∙◌}
 use Rattle.pairs.specs.declared.PairAnswer.{PairAnswer}
 use Rattle.pairs.specs.PairCall.{pair_values}

@@ -3,7 +3,6 @@ use mathlib.Core.Path.{ap, ◌∙◌}
 use Rattle.crossing_report.specs.declared.CrossingReport.{CrossingReport}
 use Rattle.paging.specs.Calls.{run_values}
 use Rattle.c_cells.specs.Cells.{run_cells}
-use borrow.Author.Rules.{rules}
 use Rattle.capi.proofs.overlay_crossing_report.Goals as goal
 
 pub returns : goal.returns

@@ -1,5 +1,4 @@
 -- `capi::overlay_fetch_page`: the page from the ticket in the cells, laid out.
-use borrow.Author.Rules.{rules}
 use mathlib.Core.Path.{ap, ◌∙◌}
 use mathlib.Core.Option.{none}
 use Rattle.paging.specs.declared.Ticket.{Ticket}

@@ -1,5 +1,4 @@
 -- `capi::overlay_fresh_ticket`: number, cells and counter are those of the answer.
-use borrow.Author.Rules.{rules}
 use mathlib.Core.Path.{ap, ◌∙◌}
 use Rattle.paging.specs.declared.Fresh.{Fresh}
 use Rattle.c_cells.specs.Cells.{ticket_cells}

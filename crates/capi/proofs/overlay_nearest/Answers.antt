@@ -1,5 +1,4 @@
 -- `capi::overlay_nearest`: the answer's number and cells.
-use borrow.Author.Rules.{rules}
 use mathlib.Core.Path.{ap, ◌∙◌}
 use Rattle.nearest.specs.declared.NearestAnswer.{NearestAnswer}
 use Rattle.nearest.specs.Nearest.{nearest_call, near_cells}

@@ -1,5 +1,4 @@
 -- `capi::overlay_read_text`: number and shape are those of the answer.
-use borrow.Author.Rules.{rules}
 use mathlib.Core.Path.{ap}
 use Rattle.text.specs.declared.Reading.{Reading}
 use Rattle.capi.proofs.overlay_read_text.Goals as goal

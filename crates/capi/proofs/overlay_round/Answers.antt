@@ -1,5 +1,4 @@
 -- `capi::overlay_round`: the round from the tickets in the cells, laid out.
-use borrow.Author.Rules.{rules}
 use mathlib.Core.Path.{ap, ap₂, ◌∙◌}
 use mathlib.Core.List.{List}
 use Rattle.paging.specs.declared.Ticket.{Ticket}

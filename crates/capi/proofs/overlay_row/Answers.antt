@@ -1,5 +1,4 @@
 -- `capi::overlay_row`: number and cells are those of the values.
-use borrow.Author.Rules.{rules}
 use mathlib.Core.Path.{ap, ◌∙◌}
 use Rattle.rows.specs.declared.RowAnswer.{RowAnswer}
 use Rattle.rows.specs.RowCall.{row_values}

@@ -2,7 +2,6 @@
 use mathlib.Core.Path.{ap, ◌∙◌}
 use Rattle.crossings.specs.declared.ClassAnswer.{ClassAnswer}
 use Rattle.crossings.specs.ClassCall.{class_values}
-use borrow.Author.Rules.{rules}
 use Rattle.capi.proofs.overlay_row_class.Goals as goal
 
 pub returns : goal.returns

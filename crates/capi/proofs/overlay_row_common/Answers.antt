@@ -1,5 +1,4 @@
 -- `capi::overlay_row_common`: number and cells are those of the values.
-use borrow.Author.Rules.{rules}
 use mathlib.Core.Path.{ap, ◌∙◌}
 use Rattle.rows.specs.declared.CommonAnswer.{CommonAnswer}
 use Rattle.rows.specs.RowCall.{common_values}

@@ -1,5 +1,4 @@
 -- `capi::overlay_row_hours`: number and cells are those of the values.
-use borrow.Author.Rules.{rules}
 use mathlib.Core.Path.{ap, ◌∙◌}
 use Rattle.windows.specs.declared.HoursAnswer.{HoursAnswer}
 use Rattle.windows.specs.HoursCall.{hours_values}

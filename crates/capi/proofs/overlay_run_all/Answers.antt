@@ -1,5 +1,4 @@
 -- `capi::overlay_run_all`: number and cells are those of the values.
-use borrow.Author.Rules.{rules}
 use mathlib.Core.Path.{ap, ◌∙◌}
 use Rattle.paging.specs.declared.Run.{Run}
 use Rattle.paging.specs.Calls.{run_values}

@@ -1,5 +1,4 @@
 -- `capi::overlay_timed_page`: the timed page from the ticket in the cells, laid out.
-use borrow.Author.Rules.{rules}
 use mathlib.Core.Path.{ap, ◌∙◌}
 use mathlib.Core.Option.{some}
 use Rattle.paging.specs.declared.Ticket.{Ticket}

@@ -1,5 +1,4 @@
 -- `capi::overlay_write_text`: number and length are those of the answer.
-use borrow.Author.Rules.{rules}
 use mathlib.Core.Path.{◌∙◌}
 use Rattle.capi.proofs.overlay_write_text.Goals as goal
 

@@ -5,7 +5,7 @@ use lib.IntN.{ℤ}
 use lib.ListN.{length, take}
 use Rattle.rows.proofs.TableRows.{row_inside}
 use Rattle.rows_code.specs.Reading.{widened}
-use Rattle.crossing_report_code.proofs.Counting.{Counting, counting-none, counting-all, counting_more, row_is, class-fits, count_fits}
+use Rattle.crossing_report_code.proofs.Counting.{counting-none, counting-all, counting_more, row_is, class-fits, count_fits}
 use Rattle.crossing_report_code.proofs.count_classes.Goals as goal
 
 pub loop-i-init : goal.loop-i-init

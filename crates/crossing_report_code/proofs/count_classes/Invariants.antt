@@ -1,12 +1,8 @@
 -- `crossing_report_code::count_classes`. The invariant: the counts so far and those of the rows that are left are those of all. The measure is how many rows are left.
-use mathlib.Core.List.{List}
-use Prim.Native.Nat.{◌+◌, ◌-◌, ◌≤◌, ◌<◌}
-use native.Mathlib.Omega.{arith}
-use lib.IntN.{ℤ}
-use lib.ListN.{length, take}
-use Rattle.rows.proofs.TableRows.{row_inside}
+use Prim.Native.Nat.{◌-◌}
+use lib.ListN.{take}
 use Rattle.rows_code.specs.Reading.{widened}
-use Rattle.crossing_report_code.proofs.Counting.{Counting, counting-none, counting-all, counting_more, row_is, class-fits, count_fits}
+use Rattle.crossing_report_code.proofs.Counting.{Counting}
 use Rattle.crossing_report_code.proofs.count_classes.Given as goal
 
 abbrev pub invariant-loop-i : goal.invariant-loop-i

@@ -2,7 +2,6 @@
 use Rattle.plan.specs.Plan.{grown}
 use Rattle.rows_code.proofs.Reading.{readable}
 use Rattle.crossing_report_code.proofs.Reports.{refused-on, done-rows, done-three, done-report}
-use borrow.Author.Rules.{rules}
 use Rattle.crossing_report_code.proofs.report_on.Goals as goal
 
 pub count_classes-counts-requires : goal.count_classes-counts-requires

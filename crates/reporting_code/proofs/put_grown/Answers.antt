@@ -1,5 +1,4 @@
 -- `put_grown` puts the lines of the grown plan's rows.
-use borrow.Author.Rules.{rules}
 use mathlib.Core.Path.{sym, ap, subst}
 use mathlib.Core.List.{List, ◌++◌}
 use Prim.Native.Nat.{ℕ}

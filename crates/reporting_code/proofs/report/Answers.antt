@@ -1,6 +1,5 @@
 -- `report` has the report put into its buffer, which has room for every report.
 use native.Mathlib.Omega.{arith}
-use borrow.Author.Rules.{rules}
 use Rattle.reporting.proofs.Texts.{printed}
 use Rattle.reporting_code.proofs.report.Goals as goal
 

@@ -3,7 +3,7 @@ use mathlib.Core.Path.{◌≡◌}
 use Prim.Native.Nat.{◌+◌, ◌-◌}
 use lib.ListN.{length}
 use native.Mathlib.Omega.{arith}
-use Rattle.rounds_code.proofs.Checks.{Passing, passing-none, passing-all, passing-stops, passing-more}
+use Rattle.rounds_code.proofs.Checks.{passing-none, passing-all, passing-stops, passing-more}
 use Rattle.rounds_code.proofs.clients_cause.Goals as goal
 
 pub loop-i-init : goal.loop-i-init

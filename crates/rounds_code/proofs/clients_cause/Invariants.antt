@@ -1,10 +1,6 @@
 -- `rounds_code::clients_cause`. The invariant: the causes of the clients that are left decide. The measure is how many are left.
-use borrow.Author.Rules.{rules}
-use mathlib.Core.Path.{◌≡◌}
-use Prim.Native.Nat.{◌+◌, ◌-◌}
-use lib.ListN.{length}
-use native.Mathlib.Omega.{arith}
-use Rattle.rounds_code.proofs.Checks.{Passing, passing-none, passing-all, passing-stops, passing-more}
+use Prim.Native.Nat.{◌-◌}
+use Rattle.rounds_code.proofs.Checks.{Passing}
 use Rattle.rounds_code.proofs.clients_cause.Given as goal
 
 abbrev pub invariant-loop-i : goal.invariant-loop-i

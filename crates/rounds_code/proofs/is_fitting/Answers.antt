@@ -1,5 +1,4 @@
 -- `rounds_code::is_fitting`: the five tests of numbers, then the counters.
-use borrow.Author.Rules.{rules}
 use Rattle.rounds_code.proofs.Checks.{no-clients, many-clients, no-first, other-first, high-budget, counted}
 use Rattle.rounds_code.proofs.is_fitting.Goals as goal
 

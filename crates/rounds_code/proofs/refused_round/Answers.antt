@@ -1,5 +1,4 @@
 -- `rounds_code::refused_round`.
-use borrow.Author.Rules.{rules}
 use Rattle.rounds_code.proofs.refused_round.Goals as goal
 
 pub returns : goal.returns

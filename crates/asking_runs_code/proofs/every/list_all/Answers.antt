@@ -1,11 +1,7 @@
 use mathlib.Core.Path.{refl, sym, ◌∙◌}
 use Prim.Native.Nat.{◌-◌}
 use native.Mathlib.Omega.{arith}
-use Rattle.asking.specs.Pairs.{rows_with}
-use Rattle.asking.specs.Lines.{two_line}
-use Rattle.asking_runs_code.specs.Listing.{Lent}
-use Rattle.asking_runs_code.proofs.Loops.{Going, going-none, going-all, next-listable, next-listed}
-use borrow.Author.Rules.{rules}
+use Rattle.asking_runs_code.proofs.Loops.{going-none, going-all, next-listable, next-listed}
 use Rattle.asking_runs_code.proofs.every.list_all.Goals as goal
 
 pub loop-i-init : goal.loop-i-init

@@ -1,12 +1,9 @@
 -- `list_all` lists layer after layer. The loop's invariant: the layers from i on are left. The measure is how many they are.
-use mathlib.Core.Path.{refl, sym, ◌∙◌}
 use Prim.Native.Nat.{◌-◌}
-use native.Mathlib.Omega.{arith}
 use Rattle.asking.specs.Pairs.{rows_with}
 use Rattle.asking.specs.Lines.{two_line}
 use Rattle.asking_runs_code.specs.Listing.{Lent}
-use Rattle.asking_runs_code.proofs.Loops.{Going, going-none, going-all, next-listable, next-listed}
-use borrow.Author.Rules.{rules}
+use Rattle.asking_runs_code.proofs.Loops.{Going}
 use Rattle.asking_runs_code.proofs.every.list_all.Given as goal
 
 abbrev pub invariant-loop-i : goal.invariant-loop-i

@@ -1,7 +1,6 @@
 -- `list_asked` lists nothing, or the rows of the two layers.
 use Rattle.asking_runs_code.proofs.TwoPlans.{both_below}
 use Rattle.asking_runs_code.proofs.Loops.{not-asked, asked-listable, asked-listed}
-use borrow.Author.Rules.{rules}
 use Rattle.asking_runs_code.proofs.every.list_asked.Goals as goal
 
 pub is_asked-requires : goal.is_asked-requires

@@ -1,11 +1,8 @@
 use mathlib.Core.Path.{sym, ◌∙◌}
-use Prim.Native.Nat.{suc, ◌-◌}
+use Prim.Native.Nat.{◌-◌}
 use native.Mathlib.Omega.{arith}
 use native.Mathlib.Numerals.{add-one}
-use Rattle.asking.specs.Lines.{two_line}
-use Rattle.asking_runs_code.specs.Listing.{rows_asked, Lent}
-use Rattle.asking_runs_code.proofs.Loops.{Going, going-none, going-all, next-listable, next-listed}
-use borrow.Author.Rules.{rules}
+use Rattle.asking_runs_code.proofs.Loops.{going-none, going-all, next-listable, next-listed}
 use Rattle.asking_runs_code.proofs.every.list_with.Goals as goal
 
 pub loop-j-init : goal.loop-j-init

@@ -1,12 +1,8 @@
 -- `list_with` lists layer after layer. The loop's invariant: the layers from j on are left. The measure is how many they are.
-use mathlib.Core.Path.{sym, ◌∙◌}
 use Prim.Native.Nat.{suc, ◌-◌}
-use native.Mathlib.Omega.{arith}
-use native.Mathlib.Numerals.{add-one}
 use Rattle.asking.specs.Lines.{two_line}
 use Rattle.asking_runs_code.specs.Listing.{rows_asked, Lent}
-use Rattle.asking_runs_code.proofs.Loops.{Going, going-none, going-all, next-listable, next-listed}
-use borrow.Author.Rules.{rules}
+use Rattle.asking_runs_code.proofs.Loops.{Going}
 use Rattle.asking_runs_code.proofs.every.list_with.Given as goal
 
 abbrev pub invariant-loop-j : goal.invariant-loop-j

@@ -1,6 +1,5 @@
 -- `put_layers` puts the lower layer and what is behind it.
 use Rattle.printing.proofs.Puts.{room-first, room-second, put_both}
-use borrow.Author.Rules.{rules}
 use Rattle.asking_runs_code.proofs.lines.put_layers.Goals as goal
 
 pub put_field-a-requires : goal.put_field-a-requires

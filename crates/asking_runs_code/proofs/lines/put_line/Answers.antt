@@ -2,7 +2,6 @@
 use native.Mathlib.Omega.{arith}
 use Rattle.printing.proofs.Puts.{room-second, put_both}
 use Rattle.printing.specs.Lines.{line_of}
-use borrow.Author.Rules.{rules}
 use Rattle.asking_runs_code.proofs.lines.put_line.Goals as goal
 
 pub put_word-a-requires : goal.put_word-a-requires

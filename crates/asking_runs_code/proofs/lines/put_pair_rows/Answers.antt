@@ -1,6 +1,5 @@
 use Prim.Native.Nat.{◌-◌}
-use native.Mathlib.Omega.{arith}
-use Rattle.asking_runs_code.proofs.PairLines.{Unlisted, none-listed, row-there, is-row, next-room, next_row, all_listed}
+use Rattle.asking_runs_code.proofs.PairLines.{none-listed, row-there, is-row, next-room, next_row, all_listed}
 use borrow.Author.Rules.{rules}
 use Rattle.asking_runs_code.proofs.lines.put_pair_rows.Goals as goal
 

@@ -11,7 +11,6 @@ use Rattle.rows.specs.inner.TableRows.{TableRows}
 use Rattle.printing.specs.inner.Parts.{FitsAt}
 use Rattle.printing.proofs.Puts.{put_same}
 use Rattle.asking_runs_code.specs.Parts.{lines_of_two}
-use borrow.Author.Rules.{rules}
 use Rattle.asking_runs_code.proofs.listing.put_grown.Goals as goal
 
 -- what is put, of these cells

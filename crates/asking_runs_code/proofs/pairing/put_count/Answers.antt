@@ -3,7 +3,6 @@ use native.Mathlib.Omega.{arith}
 use Rattle.printing.proofs.Puts.{room-second, put_both}
 use Rattle.printing.specs.Lines.{line_of}
 use Rattle.asking.specs.Lines.{count_line}
-use borrow.Author.Rules.{rules}
 use Rattle.asking_runs_code.proofs.pairing.put_count.Goals as goal
 
 pub put_word-a-requires : goal.put_word-a-requires

@@ -1,9 +1,8 @@
 use mir.Syntax.{w32}
 use Prim.Native.Nat.{◌-◌}
 use native.Mathlib.Omega.{arith}
-use lib.ListN.{length}
 use mir.Facts.{to_z-of_z}
-use Rattle.asking_runs_code.proofs.Copies.{Copied, none-copied, one-copied, all-copied}
+use Rattle.asking_runs_code.proofs.Copies.{none-copied, one-copied, all-copied}
 use borrow.Author.Rules.{rules, sfits_of}
 use Rattle.asking_runs_code.proofs.two.put_cells.Goals as goal
 

@@ -1,10 +1,7 @@
 -- `put_cells` copies cell by cell. The loop's invariant: those from i on are left. The measure is how many they are.
 use Prim.Native.Nat.{◌-◌}
-use native.Mathlib.Omega.{arith}
 use lib.ListN.{length}
-use mir.Facts.{to_z-of_z}
-use Rattle.asking_runs_code.proofs.Copies.{Copied, none-copied, one-copied, all-copied}
-use borrow.Author.Rules.{rules, sfits_of}
+use Rattle.asking_runs_code.proofs.Copies.{Copied}
 use Rattle.asking_runs_code.proofs.two.put_cells.Given as goal
 
 abbrev pub invariant-loop-i : goal.invariant-loop-i

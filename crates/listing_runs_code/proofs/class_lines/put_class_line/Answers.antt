@@ -1,6 +1,5 @@
 -- `put_class_line` puts the word and the fields.
 use native.Mathlib.Omega.{arith}
-use borrow.Author.Rules.{rules}
 use Rattle.printing.specs.Lines.{line_of}
 use Rattle.printing.proofs.Puts.{room-second, put_both}
 use Rattle.listing_runs_code.proofs.class_lines.put_class_line.Goals as goal

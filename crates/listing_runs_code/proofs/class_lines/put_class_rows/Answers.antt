@@ -1,11 +1,6 @@
-use Prim.Native.Nat.{ℕ, ◌-◌}
-use mathlib.Core.List.{List, [], ◌∷◌}
-use lib.ListN.{take}
-use Rattle.plan.specs.Plan.{layers_of}
-use Rattle.crossings.specs.Crossings.{class_in}
-use Rattle.listing.proofs.Rows.{Unlisted, none-listed, next-there, next-is, next-room, next-listed, all_listed}
+use Prim.Native.Nat.{◌-◌}
+use Rattle.listing.proofs.Rows.{none-listed, next-there, next-is, next-room, next-listed, all_listed}
 use borrow.Author.Rules.{rules}
-use native.Mathlib.Omega.{arith}
 use Rattle.listing_runs_code.proofs.class_lines.put_class_rows.Goals as goal
 
 pub loop-i-init : goal.loop-i-init

@@ -4,9 +4,7 @@ use mathlib.Core.List.{List, [], ◌∷◌}
 use lib.ListN.{take}
 use Rattle.plan.specs.Plan.{layers_of}
 use Rattle.crossings.specs.Crossings.{class_in}
-use Rattle.listing.proofs.Rows.{Unlisted, none-listed, next-there, next-is, next-room, next-listed, all_listed}
-use borrow.Author.Rules.{rules}
-use native.Mathlib.Omega.{arith}
+use Rattle.listing.proofs.Rows.{Unlisted}
 use Rattle.listing_runs_code.proofs.class_lines.put_class_rows.Given as goal
 
 abbrev pub invariant-loop-i : goal.invariant-loop-i

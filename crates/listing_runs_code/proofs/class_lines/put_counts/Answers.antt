@@ -1,8 +1,6 @@
 use Prim.Native.Nat.{◌-◌}
-use lib.ListN.{length}
-use Rattle.listing.proofs.Counts.{Uncounted, none-counted, next-count-room, next-counted, all-counted}
+use Rattle.listing.proofs.Counts.{none-counted, next-count-room, next-counted, all-counted}
 use borrow.Author.Rules.{rules}
-use native.Mathlib.Omega.{arith}
 use Rattle.listing_runs_code.proofs.class_lines.put_counts.Goals as goal
 
 pub loop-i-init : goal.loop-i-init

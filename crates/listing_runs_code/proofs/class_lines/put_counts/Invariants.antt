@@ -1,9 +1,7 @@
 -- `put_counts` puts class after class. The loop's invariant: those from i on are left. The measure is how many they are.
 use Prim.Native.Nat.{◌-◌}
 use lib.ListN.{length}
-use Rattle.listing.proofs.Counts.{Uncounted, none-counted, next-count-room, next-counted, all-counted}
-use borrow.Author.Rules.{rules}
-use native.Mathlib.Omega.{arith}
+use Rattle.listing.proofs.Counts.{Uncounted}
 use Rattle.listing_runs_code.proofs.class_lines.put_counts.Given as goal
 
 abbrev pub invariant-loop-i : goal.invariant-loop-i

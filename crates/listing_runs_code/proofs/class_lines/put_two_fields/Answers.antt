@@ -1,5 +1,4 @@
 -- `put_two_fields` puts two fields and ends the line.
-use borrow.Author.Rules.{rules}
 use Rattle.printing.proofs.Puts.{room-first, room-second, put_both}
 use Rattle.listing_runs_code.proofs.class_lines.put_two_fields.Goals as goal
 

@@ -13,7 +13,6 @@ use Rattle.printing.specs.Lines.{total_line}
 use Rattle.printing.specs.inner.Parts.{FitsAt}
 use Rattle.printing.proofs.Puts.{put_same}
 use Rattle.listing.specs.Lines.{classed_lines, class_lines}
-use borrow.Author.Rules.{rules}
 use Rattle.listing_runs_code.proofs.class_runs.put_class_grown.Goals as goal
 
 -- what is put, of these cells

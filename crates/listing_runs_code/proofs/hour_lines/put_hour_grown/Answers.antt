@@ -13,7 +13,6 @@ use Rattle.printing.specs.Lines.{total_line}
 use Rattle.printing.specs.inner.Parts.{FitsAt}
 use Rattle.printing.proofs.Puts.{put_same}
 use Rattle.listing.specs.Hours.{hour_lines}
-use borrow.Author.Rules.{rules}
 use Rattle.listing_runs_code.proofs.hour_lines.put_hour_grown.Goals as goal
 
 -- what is put, of these cells

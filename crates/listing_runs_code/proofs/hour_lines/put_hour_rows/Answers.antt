@@ -1,9 +1,6 @@
 use Prim.Native.Nat.{◌-◌}
-use lib.ListN.{take}
-use Rattle.listing.specs.Hours.{minutes_in}
-use Rattle.listing.proofs.Rows.{Unlisted, none-listed, next-there, next-is, next-room, next-listed, all_listed}
+use Rattle.listing.proofs.Rows.{none-listed, next-there, next-is, next-room, next-listed, all_listed}
 use borrow.Author.Rules.{rules}
-use native.Mathlib.Omega.{arith}
 use Rattle.listing_runs_code.proofs.hour_lines.put_hour_rows.Goals as goal
 
 pub loop-i-init : goal.loop-i-init

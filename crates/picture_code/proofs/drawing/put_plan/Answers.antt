@@ -12,7 +12,6 @@ use Rattle.printing.specs.inner.Parts.{FitsAt}
 use Rattle.printing.proofs.Puts.{put_same}
 use Rattle.picture.specs.Frames.{ground_of, frame_of}
 use Rattle.picture.specs.Pictures.{picture_of}
-use borrow.Author.Rules.{rules}
 use Rattle.picture_code.proofs.drawing.put_plan.Goals as goal
 
 -- what is drawn, with these grown cells

@@ -1,6 +1,5 @@
 -- `next_number` goes on behind a hole that took one.
 use borrow.Author.Rules.{rules}
-use native.Mathlib.Omega.{arith}
 use Rattle.picture.proofs.Fills.{hole-later, none-later, other-later}
 use Rattle.picture_code.proofs.fill.next_number.Goals as goal
 

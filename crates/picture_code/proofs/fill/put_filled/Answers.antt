@@ -1,8 +1,6 @@
 use Prim.Native.Nat.{◌-◌}
-use lib.ListN.{length}
-use Rattle.picture.proofs.Fills.{Filling, none_filled, next-piece-room, next-filled, all-filled}
+use Rattle.picture.proofs.Fills.{none_filled, next-piece-room, next-filled, all-filled}
 use borrow.Author.Rules.{rules}
-use native.Mathlib.Omega.{arith}
 use Rattle.picture_code.proofs.fill.put_filled.Goals as goal
 
 pub loop-i-init : goal.loop-i-init

@@ -1,9 +1,7 @@
 -- `put_filled` puts byte after byte. The loop's invariant: the bytes from i on are left, with the numbers from j on. The measure is how many bytes they are.
 use Prim.Native.Nat.{◌-◌}
 use lib.ListN.{length}
-use Rattle.picture.proofs.Fills.{Filling, none_filled, next-piece-room, next-filled, all-filled}
-use borrow.Author.Rules.{rules}
-use native.Mathlib.Omega.{arith}
+use Rattle.picture.proofs.Fills.{Filling}
 use Rattle.picture_code.proofs.fill.put_filled.Given as goal
 
 abbrev pub invariant-loop-i : goal.invariant-loop-i

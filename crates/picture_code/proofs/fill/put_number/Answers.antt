@@ -10,7 +10,6 @@ use lib.ListN.{length, length-set}
 use mir.Syntax.{w64}
 use mir.Val.{SFits}
 use mir.Facts.{to_z-of_z}
-use borrow.Author.Rules.{rules}
 use Rattle.decimal.specs.Numerals.{decimal, numeral}
 use Rattle.decimal.proofs.Signs.{neg-numeral, pos-numeral}
 use Rattle.lists.proofs.Stores.{put_first, put-length}

@@ -6,7 +6,6 @@ use lib.Signed.{lt_z}
 use mir.Syntax.{w64}
 use mir.Val.{SFits}
 use mir.Facts.{to_z-of_z, Fits-nat_abs}
-use native.Mathlib.Omega.{arith}
 use Rattle.decimal.proofs.Signs.{pos-sign}
 use Rattle.picture.proofs.Signs.{one_more, turned, turned_up, turned-size, turned-small}
 use Rattle.picture_code.proofs.fill.size_of.Goals as goal

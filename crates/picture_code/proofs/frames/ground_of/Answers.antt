@@ -1,9 +1,6 @@
-use mathlib.Core.Path.{◌≡◌}
-use Prim.Native.Nat.{◌-◌, ◌≤◌}
+use Prim.Native.Nat.{◌-◌}
 use native.Mathlib.Omega.{arith}
 use borrow.Author.Rules.{rules}
-use Rattle.plan.specs.Plan.{rect_at}
-use Rattle.picture.specs.Frames.{hull}
 use Rattle.picture.proofs.Frames.{no-ground, ground-more, ground-all}
 use Rattle.picture_code.proofs.frames.ground_of.Goals as goal
 

@@ -1,11 +1,8 @@
 -- `ground_of` takes in one rectangle after the other. The loop's invariant: the ground of the first i. The measure is how many are left.
 use mathlib.Core.Path.{◌≡◌}
 use Prim.Native.Nat.{◌-◌, ◌≤◌}
-use native.Mathlib.Omega.{arith}
-use borrow.Author.Rules.{rules}
 use Rattle.plan.specs.Plan.{rect_at}
 use Rattle.picture.specs.Frames.{hull}
-use Rattle.picture.proofs.Frames.{no-ground, ground-more, ground-all}
 use Rattle.picture_code.proofs.frames.ground_of.Given as goal
 
 abbrev pub invariant-loop-i : goal.invariant-loop-i

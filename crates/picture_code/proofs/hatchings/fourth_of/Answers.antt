@@ -4,7 +4,7 @@ use mir.Facts.{to_z-of_z}
 use Rattle.geometry.proofs.Machine.{read-span}
 use Rattle.picture.proofs.Signs.{number_is}
 use Rattle.picture.proofs.Hatchings.{fourth-is}
-use borrow.Author.Rules.{rules, sfits_of}
+use borrow.Author.Rules.{sfits_of}
 use Rattle.picture_code.proofs.hatchings.fourth_of.Goals as goal
 
 pub returns : goal.returns

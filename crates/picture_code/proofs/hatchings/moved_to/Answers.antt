@@ -2,7 +2,7 @@
 use native.Mathlib.Omega.{arith}
 use Rattle.picture.proofs.Signs.{number_is, coordinate-is}
 use Rattle.picture.proofs.Hatchings.{down_fits, up_fits, moved-is}
-use borrow.Author.Rules.{rules, sfits_of}
+use borrow.Author.Rules.{sfits_of}
 use Rattle.picture_code.proofs.hatchings.moved_to.Goals as goal
 
 pub overflow_sub-result : goal.overflow_sub-result

@@ -2,7 +2,6 @@
 use mathlib.Core.Path.{refl}
 use native.Mathlib.Omega.{arith}
 use Rattle.picture.proofs.Hatchings.{part-few}
-use borrow.Author.Rules.{rules}
 use Rattle.picture_code.proofs.hatchings.part_of.Goals as goal
 
 pub overflow_mul-result : goal.overflow_mul-result

@@ -1,7 +1,7 @@
 -- `points_in`: each number is read back.
 use mathlib.Core.Path.{refl}
 use Rattle.picture.proofs.Signs.{number_is, ◌then◌}
-use borrow.Author.Rules.{rules, sfits_of}
+use borrow.Author.Rules.{sfits_of}
 use Rattle.picture_code.proofs.hatchings.points_in.Goals as goal
 
 pub returns : goal.returns

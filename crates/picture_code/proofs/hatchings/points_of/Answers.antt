@@ -3,7 +3,6 @@ use mathlib.Core.Path.{ap₂, ◌∙◌}
 use mathlib.Core.List.{List}
 use Prim.Native.Nat.{ℕ}
 use Rattle.picture.specs.Hatchings.{points}
-use borrow.Author.Rules.{rules}
 use Rattle.picture_code.proofs.hatchings.points_of.Goals as goal
 
 pub returns : goal.returns

@@ -1,8 +1,6 @@
 use Prim.Native.Nat.{◌-◌}
 use native.Mathlib.Omega.{arith}
-use lib.ListN.{take}
-use Rattle.picture.proofs.Layers.{Layered, none-layered, layer-inside, layer-short, layer-drawable, layer-room, layer-more, layers-end}
-use borrow.Author.Rules.{rules}
+use Rattle.picture.proofs.Layers.{none-layered, layer-inside, layer-short, layer-drawable, layer-room, layer-more, layers-end}
 use Rattle.picture_code.proofs.layers.put_layers.Goals as goal
 
 pub loop-j-init : goal.loop-j-init

@@ -1,9 +1,7 @@
 -- `put_layers` puts layer after layer. The loop's invariant: those from j on are left. The measure is how many they are.
 use Prim.Native.Nat.{◌-◌}
-use native.Mathlib.Omega.{arith}
 use lib.ListN.{take}
-use Rattle.picture.proofs.Layers.{Layered, none-layered, layer-inside, layer-short, layer-drawable, layer-room, layer-more, layers-end}
-use borrow.Author.Rules.{rules}
+use Rattle.picture.proofs.Layers.{Layered}
 use Rattle.picture_code.proofs.layers.put_layers.Given as goal
 
 abbrev pub invariant-loop-j : goal.invariant-loop-j

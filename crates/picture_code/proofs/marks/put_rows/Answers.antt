@@ -1,6 +1,5 @@
 use Prim.Native.Nat.{◌-◌}
-use native.Mathlib.Omega.{arith}
-use Rattle.picture.proofs.Marks.{Unmarked, none-marked, next-there, next-is, next-room, next-marked, all-marked}
+use Rattle.picture.proofs.Marks.{none-marked, next-there, next-is, next-room, next-marked, all-marked}
 use borrow.Author.Rules.{rules}
 use Rattle.picture_code.proofs.marks.put_rows.Goals as goal
 

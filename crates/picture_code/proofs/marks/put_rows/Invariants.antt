@@ -1,8 +1,6 @@
 -- `put_rows` puts row after row. The loop's invariant: those from i on are left. The measure is how many they are.
 use Prim.Native.Nat.{◌-◌}
-use native.Mathlib.Omega.{arith}
-use Rattle.picture.proofs.Marks.{Unmarked, none-marked, next-there, next-is, next-room, next-marked, all-marked}
-use borrow.Author.Rules.{rules}
+use Rattle.picture.proofs.Marks.{Unmarked}
 use Rattle.picture_code.proofs.marks.put_rows.Given as goal
 
 abbrev pub invariant-loop-i : goal.invariant-loop-i

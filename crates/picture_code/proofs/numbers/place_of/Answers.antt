@@ -3,7 +3,7 @@ use mathlib.Core.Path.{refl}
 use native.Mathlib.Omega.{arith}
 use Rattle.picture.proofs.Signs.{number_is, ◌then◌}
 use Rattle.picture.proofs.Frames.{line-few}
-use borrow.Author.Rules.{rules, sfits_of}
+use borrow.Author.Rules.{sfits_of}
 use Rattle.picture_code.proofs.numbers.place_of.Goals as goal
 
 pub overflow_mul-u-3 : goal.overflow_mul-u-3

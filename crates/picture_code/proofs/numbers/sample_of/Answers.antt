@@ -4,7 +4,6 @@ use native.Mathlib.Omega.{arith}
 use mir.Syntax.{w32}
 use mir.Facts.{to_z_pos}
 use Rattle.geometry.proofs.Machine.{rect-eq}
-use borrow.Author.Rules.{rules}
 use Rattle.picture_code.proofs.numbers.sample_of.Goals as goal
 
 pub returns : goal.returns

@@ -1,7 +1,7 @@
 -- `title_of`: each number is read back.
 use mathlib.Core.Path.{refl}
 use Rattle.picture.proofs.Signs.{number_is, ◌then◌}
-use borrow.Author.Rules.{rules, sfits_of}
+use borrow.Author.Rules.{sfits_of}
 use Rattle.picture_code.proofs.numbers.title_of.Goals as goal
 
 pub returns : goal.returns

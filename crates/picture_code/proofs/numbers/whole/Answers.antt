@@ -1,5 +1,4 @@
 -- `whole`: a number of 63 bits is itself with a sign.
-use borrow.Author.Rules.{rules}
 use mir.Syntax.{w64}
 use mir.Facts.{to_z_pos}
 use Rattle.picture_code.proofs.numbers.whole.Goals as goal

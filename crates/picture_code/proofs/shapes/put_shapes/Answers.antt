@@ -1,6 +1,6 @@
 use Prim.Native.Nat.{◌-◌}
 use native.Mathlib.Omega.{arith}
-use Rattle.picture.proofs.Shapes.{Undrawn, none-drawn, next-drawable, next-shape-room, next_drawn, all-drawn}
+use Rattle.picture.proofs.Shapes.{none-drawn, next-drawable, next-shape-room, next_drawn, all-drawn}
 use borrow.Author.Rules.{rules}
 use Rattle.picture_code.proofs.shapes.put_shapes.Goals as goal
 

@@ -1,8 +1,6 @@
 -- `put_shapes` puts rectangle after rectangle. The loop's invariant: those from p on are left. The measure is how many they are.
 use Prim.Native.Nat.{◌-◌}
-use native.Mathlib.Omega.{arith}
-use Rattle.picture.proofs.Shapes.{Undrawn, none-drawn, next-drawable, next-shape-room, next_drawn, all-drawn}
-use borrow.Author.Rules.{rules}
+use Rattle.picture.proofs.Shapes.{Undrawn}
 use Rattle.picture_code.proofs.shapes.put_shapes.Given as goal
 
 abbrev pub invariant-loop-p : goal.invariant-loop-p

@@ -3,7 +3,7 @@ use mathlib.Core.Path.{refl, ap, ◌∙◌}
 use Prim.Native.Nat.{ℕ, ◌/◌, ◌%◌}
 use lib.IntN.{pos}
 use Rattle.picture.proofs.Signs.{number_is, ◌then◌}
-use borrow.Author.Rules.{rules, sfits_of}
+use borrow.Author.Rules.{sfits_of}
 use Rattle.picture_code.proofs.views.scale_of.Goals as goal
 
 pub returns : goal.returns

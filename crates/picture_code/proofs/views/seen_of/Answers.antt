@@ -5,7 +5,7 @@ use native.Mathlib.Omega.{arith}
 use lib.IntN.{pos}
 use Rattle.picture.proofs.Signs.{number_is, ◌then◌}
 use Rattle.picture.proofs.Frames.{longer-few}
-use borrow.Author.Rules.{rules, sfits_of}
+use borrow.Author.Rules.{sfits_of}
 use Rattle.picture_code.proofs.views.seen_of.Goals as goal
 
 pub overflow_add-longer_of : goal.overflow_add-longer_of

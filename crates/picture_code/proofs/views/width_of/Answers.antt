@@ -1,6 +1,5 @@
 -- `width_of` asks whether it is too wide.
 use native.Mathlib.Omega.{arith}
-use borrow.Author.Rules.{rules}
 use Rattle.picture.proofs.Hatchings.{width-kept, width-most}
 use Rattle.picture_code.proofs.views.width_of.Goals as goal
 

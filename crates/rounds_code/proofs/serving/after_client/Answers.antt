@@ -1,5 +1,4 @@
 -- `rounds_code::serving::after_client`.
-use borrow.Author.Rules.{rules}
 use mathlib.Core.Path.{sym, ◌∙◌}
 use native.Mathlib.Numerals.{add-one}
 use Rattle.rounds.proofs.Shares.{after_last, after_next}

@@ -1,5 +1,4 @@
 -- `rounds_code::serving::empty_page`.
-use borrow.Author.Rules.{rules}
 use Rattle.rounds_code.proofs.serving.empty_page.Goals as goal
 
 pub returns : goal.returns

@@ -1,9 +1,8 @@
 use borrow.Author.Rules.{rules}
 use Prim.Native.Nat.{◌-◌}
-use native.Mathlib.Omega.{arith}
 use mathlib.Core.Path.{◌≡◌, refl}
 use lib.ListN.{length}
-use Rattle.rounds_code.proofs.Pages.{Emptied, emptied-none, emptied-more, emptied-all}
+use Rattle.rounds_code.proofs.Pages.{emptied-none, emptied-more, emptied-all}
 use Rattle.rounds_code.proofs.serving.empty_pages.Goals as goal
 
 pub loop-i-init : goal.loop-i-init

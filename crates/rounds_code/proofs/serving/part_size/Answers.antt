@@ -1,5 +1,4 @@
 -- `rounds_code::serving::part_size`.
-use borrow.Author.Rules.{rules}
 use native.Mathlib.Nat.{mul-le-mul, mul-pos}
 use native.Mathlib.Omega.{arith}
 use Rattle.rounds.proofs.Parts.{parts_within}

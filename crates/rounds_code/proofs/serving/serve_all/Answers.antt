@@ -4,7 +4,7 @@ use Prim.Native.Nat.{◌+◌, ◌-◌, ◌*◌, ◌≤◌}
 use native.Mathlib.Omega.{arith}
 use lib.ListN.{length}
 use Rattle.slots.proofs.Frames.{more}
-use Rattle.rounds_code.proofs.Loop.{Going, going-none, going_more, going-all, due-from, due-to, due-inside, probes-left}
+use Rattle.rounds_code.proofs.Loop.{going-none, going_more, going-all, due-from, due-to, due-inside, probes-left}
 use Rattle.rounds_code.proofs.serving.serve_all.Goals as goal
 
 pub part_size-size-requires : goal.part_size-size-requires

@@ -1,12 +1,7 @@
 -- `rounds_code::serving::serve_all`. The invariant: those that were served have their pages, counters and parts, and the others what they had. The measure is how
 -- many are still to serve.
-use borrow.Author.Rules.{rules}
-use mathlib.Core.Path.{◌≡◌, ◌∙◌}
-use Prim.Native.Nat.{◌+◌, ◌-◌, ◌*◌, ◌≤◌}
-use native.Mathlib.Omega.{arith}
-use lib.ListN.{length}
-use Rattle.slots.proofs.Frames.{more}
-use Rattle.rounds_code.proofs.Loop.{Going, going-none, going_more, going-all, due-from, due-to, due-inside, probes-left}
+use Prim.Native.Nat.{◌-◌}
+use Rattle.rounds_code.proofs.Loop.{Going}
 use Rattle.rounds_code.proofs.serving.serve_all.Given as goal
 
 abbrev pub invariant-loop-i : goal.invariant-loop-i

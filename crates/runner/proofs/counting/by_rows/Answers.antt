@@ -1,5 +1,4 @@
 -- `runner::counting::by_rows`: the ground of the rows in the table.
-use borrow.Author.Rules.{rules}
 use mathlib.Core.Path.{sym}
 use lib.Seq.{length-take-le}
 use Rattle.ground_code.proofs.Tables.{ready-rows, ready-lefts}

@@ -1,5 +1,4 @@
 -- `runner::counting::with_ground`: a refusal, or the ground of the rows in the table.
-use borrow.Author.Rules.{rules}
 use mathlib.Core.Path.{refl, sym, ◌∙◌}
 use native.Mathlib.Omega.{arith}
 use Rattle.runner.proofs.Deciding.{done_refused}

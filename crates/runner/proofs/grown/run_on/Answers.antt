@@ -1,5 +1,4 @@
 -- `runner::grown::run_on`: over the cells as drawn, or over a copy that is grown.
-use borrow.Author.Rules.{rules}
 use mathlib.Core.List.{List}
 use Prim.Native.Nat.{◌≤◌}
 use lib.IntN.{ℤ}

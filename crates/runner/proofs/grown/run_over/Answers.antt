@@ -1,6 +1,5 @@
 -- `runner::grown::run_over`: a refusal by 5, or the run and the ground of its rows.
 use borrow.Author.Rules.{rules}
-use borrow.Author.Tests.{not-true, not-false}
 use native.Mathlib.Omega.{arith}
 use Rattle.plan.specs.Plan.{Typed}
 use Rattle.slots.proofs.Frames.{framing-over}
