@@ -9,8 +9,8 @@ from cited import CRATES, bare, read
 WORD = r"[A-Za-z][\w'→-]*"
 # Whose contracts are the promises: all that is exported to C, and these calls for programs in Rattle.
 CALLS = {
-    "plan_code": ["plan_cause"],
-    "sweep_code": ["make_order", "order_cause"],
+    "plan_code": ["check_plan"],
+    "sweep_code": ["make_order", "check_order"],
     "rows_code": ["row", "row_common"],
     "nearest_code": ["nearest"],
     "pairs_code": ["apart_pair"],
@@ -24,7 +24,8 @@ CALLS = {
     "writer": ["write"],
     "survey_code": ["cover_records"],
     "reporting_code": ["report"],
-    "commands_code": ["command", "text_source", "second_source"],
+    "commands_code": ["command"],
+    "arguments_code": ["text_source", "second_source"],
 }
 
 
@@ -62,10 +63,14 @@ def led_to():
                 due.append((key, word))
 
     for crate in ["capi", "program", *CALLS]:
-        text = read(f"crates/{crate}/src/lib.rt")
-        for name, contract in re.findall(r'pub (?:extern "C" )?fn (\w+)(\(.*?)\n\{', bare(text), re.S):
-            if crate not in CALLS or name in CALLS[crate]:
-                lead(contract, taken(text), None)
+        found = set()
+        for path in glob(f"crates/{crate}/src/**/*.rt", recursive=True):
+            text = read(path)
+            for name, contract in re.findall(r'pub (?:extern "C" )?fn (\w+)(\(.*?)\n\{', bare(text), re.S):
+                if crate not in CALLS or name in CALLS[crate]:
+                    found.add(name)
+                    lead(contract, taken(text), None)
+        assert found >= set(CALLS.get(crate, [])), f"{crate}: no {set(CALLS[crate]) - found}"
     while due:
         key, word = due.pop()
         lead(names[key][word], uses[key], key)

@@ -80,13 +80,14 @@ const ORDERS: [(&str, &str, &str, &str); 9] = [
     ("COMMON_", "LEFT BOTTOM RIGHT TOP KIND CELLS", CELLS, "in r.left ∷ r.bottom ∷ r.right ∷ r.top ∷ pos v.kind ∷ []"),
     ("PAIR_", "LOWER HIGHER CELLS", CELLS, "pair_cells v = v.lower ∷ v.higher ∷ []"),
     ("HOURS_", "FROM TO CELLS", CELLS, "hours_cells v = v.from ∷ v.to ∷ []"),
-    ("NEAR_", "FOUND PLACE GAP CELLS", NEAREST, "in cond e.found 1 0 ∷ e.place ∷ e.gap ∷ []) 0 6"),
+    ("NEAR_", "FOUND PLACE GAP CELLS", NEAREST, "entry_cells (Some e) = 1 ∷ e.place ∷ e.gap ∷ []"),
     ("STRIP_", "LEFT RIGHT BOTTOM TOP STOPS", CELLS, "upward_in = strip_in (get_or kinds 1 0) (get_or stops 2 nan) (get_or stops 3 nan)"),
 ];
 
 /// Whether each name has the number that the definitions, the code, the prototypes, the crate and the module give it; the names that have not.
 fn astray(header: &str) -> Vec<String> {
     let mut numbers = Vec::new();
+    assert!(NEAREST.contains("entry_cells None = 0 ∷ 0 ∷ 0 ∷ []"), "an entry with nothing found");
     for (prefix, names, text, definition) in ORDERS {
         assert!(text.contains(definition), "no {definition}");
         numbers.extend(names.split(' ').zip(0..).map(|(name, i)| (format!("{prefix}{name}"), i)));
@@ -109,7 +110,7 @@ fn astray(header: &str) -> Vec<String> {
         ("KIND_GROUND", RECTANGLES, "letter_of Ground = "),
         ("KIND_EDGE", RECTANGLES, "letter_of Edge = "),
         ("KIND_POINT", RECTANGLES, "letter_of Point = "),
-        ("CLASS_NO_ROW", CLASSES, "class_values NoRow = record { number = 0; class = "),
+        ("CLASS_NO_ROW", CLASSES, "class_values (Ok None) = record { number = 0; class = "),
         ("CLASS_COUNTS", CLASSES, "upto (count_of ls rows) 0 "),
         ("MOST_LAYERS", LIMITS, "most_layers = "),
         ("MOST_SIZE", LIMITS, "most_size = "),

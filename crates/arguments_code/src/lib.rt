@@ -8,8 +8,7 @@ mod sources;
 mod stops;
 mod texts;
 
-pub use arguments::{box_of, call_of, fill_places, is_fit, layer_of, named_command};
-pub use limits::MOST_COMMANDS;
+pub use arguments::{box_of, call_of, fill_places, fitting_command, layer_of, named_command};
 pub use sources::{second_source, text_source};
 pub use stops::given_stops;
-pub use texts::{help_texts, usage_lines, version_line};
+pub use texts::{help_texts, text_number, usage_lines, version_line};

@@ -1,30 +1,29 @@
 // What the commands take.
-ghost use Rattle.std.specs.Prelude.{◌≡◌, ◌≤◌, ◌<◌};
-ghost use Rattle.commands.specs.Commands.{most_commands, limits, limit};
+ghost use Rattle.std.specs.Prelude.{◌≡◌, ◌≤◌};
+ghost use Rattle.commands.specs.Commands.{number_of_command, number_of_named, limits, limit};
 ghost use Rattle.commands.specs.Arguments.{limit_or};
 
-// How many commands there are.
-pub const MOST_COMMANDS: u32 = 11;
+use commands::Command;
 
 // One of the six limits of a command.
-pub fn limit_of(command: u32, column: u32) -> usize
-    requires { (command < most_commands) × (column ≤ 5) }
-    ensures { result ≡ limit command column }
+pub fn limit_of(command: Command, column: u32) -> usize
+    requires { column ≤ 5 }
+    ensures { result ≡ limit (number_of_command command) column }
 {
     let table = limit_table();
-    let i = (6 * command + column) as usize;
+    let i = (6 * u32::from(command) + column) as usize;
     table[i]
 }
 
-// The same; 0 where it is no command's number.
-pub fn limit_or(command: u32, column: u32) -> usize
+// The same; 0 where there is no command.
+pub fn limit_or(command: Option<Command>, column: u32) -> usize
     requires { column ≤ 5 }
-    ensures { result ≡ limit_or command column }
+    ensures { result ≡ limit_or (number_of_named command) column }
 {
-    if MOST_COMMANDS <= command {
-        return 0;
+    match command {
+        Some(command) => limit_of(command, column),
+        None => 0,
     }
-    limit_of(command, column)
 }
 
 // For each command: the fewest and the most numbers, the fewest and the most names, whether it reads a text, and whether `-` may stand for a number.

@@ -2,7 +2,7 @@
 ghost use Rattle.std.specs.Prelude.{◌≡◌};
 ghost use Rattle.commands.specs.Arguments.{text_source, second_source};
 
-use crate::arguments::{call_of, count_arguments, is_fit};
+use crate::arguments::{call_of, count_arguments, fitting_command};
 use crate::limits::limit_of;
 
 // Where the text comes from: 0 from nowhere, 1 from standard input, n above 1 from the file that the program's argument n names.
@@ -10,14 +10,13 @@ pub fn text_source(arguments: &[u8]) -> usize
     ensures { result ≡ text_source arguments.now }
 {
     let call = call_of(arguments);
-    if !is_fit(call) {
+    let Some(command) = fitting_command(call) else {
+        return 0;
+    };
+    if limit_of(command, 4) != 1 {
         return 0;
     }
-    let c = call.command;
-    if limit_of(c, 4) != 1 {
-        return 0;
-    }
-    if limit_of(c, 2) < call.names {
+    if limit_of(command, 2) < call.names {
         return count_arguments(arguments);
     }
     1
@@ -28,10 +27,10 @@ pub fn second_source(arguments: &[u8]) -> usize
     ensures { result ≡ second_source arguments.now }
 {
     let call = call_of(arguments);
-    if !is_fit(call) {
+    let Some(command) = fitting_command(call) else {
         return 0;
-    }
-    if limit_of(call.command, 2) == 0 {
+    };
+    if limit_of(command, 2) == 0 {
         return 0;
     }
     2 + call.numbers

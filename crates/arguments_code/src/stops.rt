@@ -5,36 +5,27 @@ ghost use Rattle.outcomes.specs.Texts.{ascii};
 ghost use Rattle.commands.specs.Arguments.{argument, is_taken, weight_at, given_in};
 
 use crate::arguments::{is_number, names_number, same_bytes};
-use outcomes_code::{end_of, part_from};
+use outcomes_code::part_of;
 
 // Whether a word is `-`.
 fn is_dash(word: &[u8]) -> bool
     ensures { result ≡ same word.now (ascii "-") }
 {
-    let dash = *b"-";
-    same_bytes(word, &dash)
+    same_bytes(word, b"-")
 }
 
 // Whether a word is taken for a number.
 fn is_taken(dash: usize, word: &[u8]) -> bool
     ensures { result ≡ is_taken dash word.now }
 {
-    if is_number(word) {
-        return true;
-    }
-    if dash != 1 {
-        return false;
-    }
-    is_dash(word)
+    is_number(word) || dash == 1 && is_dash(word)
 }
 
 // Whether an argument is taken for a number.
 pub fn takes_number(dash: usize, arguments: &[u8], i: u32) -> bool
     ensures { result ≡ is_taken dash (argument i arguments.now) }
 {
-    let from = part_from(arguments, i, 0);
-    let end = end_of(arguments, from, 0);
-    is_taken(dash, &arguments[from..end])
+    is_taken(dash, part_of(arguments, i, 0))
 }
 
 // The weight of an argument that is a number, and 0 of another.

@@ -1,6 +1,21 @@
 // The texts of the commands, as they are defined.
 ghost use Rattle.std.specs.Prelude.{◌≡◌};
-ghost use Rattle.commands.specs.Commands.{command_words, usage_lines, help_texts, version_line};
+ghost use Rattle.commands.specs.Commands.{number_of_named, command_words, usage_lines, help_texts, version_line};
+
+use commands::Command;
+
+// The number of the text that stands behind those of the commands.
+const BEHIND_ALL: u32 = 11;
+
+// The number of a command's text; of the one behind them where there is no command.
+pub fn text_number(command: Option<Command>) -> u32
+    ensures { result ≡ number_of_named command }
+{
+    match command {
+        Some(command) => u32::from(command),
+        None => BEHIND_ALL,
+    }
+}
 
 // The word of each command, ended by byte 0.
 pub fn command_words() -> [u8; 74]

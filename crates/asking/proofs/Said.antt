@@ -31,7 +31,7 @@ lines-hold = record {
   share = refl;
   apart = λ lower higher. refl;
   near = λ layer place gap. rw (div-one (root (10000 * gap)));
-  none = λ layer place gap. refl;
+  none = λ layer. refl;
   pair = λ ls i j p q. refl;
   count = λ n. refl;
 }

@@ -1,6 +1,6 @@
 -- The lines of the commands. Fields are tabbed, each line ends in byte 10, and numbers are spelled as in the report.
 use mathlib.Core.List.{List, [], ◌∷◌, ◌++◌, flat_map}
-use Rattle.std.specs.Prelude.{cond, ℕ, suc, ◌*◌, ℤ, length, get_or}
+use Rattle.std.specs.Prelude.{ℕ, suc, ◌*◌, ℤ, length, get_or, Option, Some, None}
 use Rattle.lists.specs.Lists.{each}
 use Rattle.decimal.specs.Numerals.{decimal}
 use Rattle.plan.specs.declared.Shape.{Shape}
@@ -29,13 +29,12 @@ abbrev pub millimetres : (gap : ℕ) → List ℕ
 millimetres gap = square_metres (root (10000 * gap))
 
 -- what lies nearest in a layer, numbered from 1: its place, the squared gap, the gap; or that there is nothing
-unfoldable pub near_line : (layer : ℕ) → Near → List ℕ
-near_line layer e =
-    cond e.found (line_of (ascii "NEAR") (decimal layer ∷ decimal e.place ∷ decimal e.gap ∷ millimetres e.gap ∷ []))
-    (line_of (ascii "NONE") (decimal layer ∷ []))
+unfoldable pub near_line : (layer : ℕ) → Option Near → List ℕ
+near_line layer (Some e) = line_of (ascii "NEAR") (decimal layer ∷ decimal e.place ∷ decimal e.gap ∷ millimetres e.gap ∷ [])
+near_line layer None = line_of (ascii "NONE") (decimal layer ∷ [])
 
 -- ... in each of the first k layers
-abbrev pub near_lines : (k : ℕ) → List Near → List ℕ
+abbrev pub near_lines : (k : ℕ) → List (Option Near) → List ℕ
 near_lines k es = each (λ j. near_line (suc j) (get_or es j nothing)) 0 k
 
 -- ---- `pairs`

@@ -1,6 +1,6 @@
 -- Theorem: what a whole square root is, which rows `pairs` tells of every accepted plan, the lines byte by byte, and what is said of every text. Proved in
 -- proofs/Theorems.antt.
-use Rattle.std.specs.Prelude.{◌≡◌, true, false, ◌↔◌, ◌⊎◌, ℕ, suc, ◌+◌, ◌*◌, ◌/◌, ◌%◌, ◌≤◌, ◌<◌, ℤ, length}
+use Rattle.std.specs.Prelude.{◌≡◌, ◌↔◌, ◌⊎◌, ℕ, suc, ◌+◌, ◌*◌, ◌/◌, ◌%◌, ◌≤◌, ◌<◌, ℤ, length, Some, None}
 use mathlib.Core.List.{List, [], ◌∷◌, ◌++◌, Memᴰ}
 use Rattle.lists.specs.Lists.{Distinct}
 use Rattle.geometry.specs.Rectangles.{letter_of}
@@ -57,10 +57,10 @@ pub record AnswerLinesHold : Type 0 where
       ≡ 65 ∷ 80 ∷ 65 ∷ 82 ∷ 84 ∷ 9 ∷ (decimal lower ++ 9 ∷ (decimal higher ++ 10 ∷ []))
   -- N E A R, layer, place, squared gap, and the root of 10,000 times it with two decimals; N O N E and the layer
   pub near : (layer place gap : ℕ) → let h = root (10000 * gap) in
-      near_line layer (record { found = true; place = place; gap = gap })
+      near_line layer (Some (record { place = place; gap = gap }))
       ≡ 78 ∷ 69 ∷ 65 ∷ 82 ∷ 9 ∷ (decimal layer ++ 9 ∷ (decimal place ++ 9 ∷ (decimal gap
       ++ 9 ∷ ((decimal (h / 100) ++ 46 ∷ (48 + h / 10 % 10) ∷ (48 + h % 10) ∷ []) ++ 10 ∷ []))))
-  pub none : (layer place gap : ℕ) → near_line layer (record { found = false; place = place; gap = gap })
+  pub none : (layer : ℕ) → near_line layer None
       ≡ 78 ∷ 79 ∷ 78 ∷ 69 ∷ 9 ∷ (decimal layer ++ 10 ∷ [])
   -- P A I R, both layers from 1, both places, area, kind; T O T A L and the number
   pub pair : (ls : List Layer) (i j p q : ℕ) → let row = p ∷ q ∷ [] in pair_line ls (record { lower = i; higher = j; row = row })

@@ -2,7 +2,7 @@
 use mathlib.Core.Path.{◌≡◌, refl, sym, ap, ◌∙◌}
 use mathlib.Core.Bool.{true}
 use mathlib.Core.List.{List, [], ◌∷◌}
-use Prim.Native.Nat.{ℕ, zero, suc, ◌*◌, ◌≤◌, ◌<◌}
+use Prim.Native.Nat.{ℕ, zero, suc, ◌+◌, ◌*◌, ◌≤◌, ◌<◌}
 use native.Mathlib.Omega.{arith}
 use lib.IntN.{ℤ}
 use lib.ListN.{length, get_or, take, drop, length-append}
@@ -20,24 +20,22 @@ use Rattle.plan.proofs.Plan.{checked}
 use Rattle.plan.proofs.Growing.{framed}
 use Rattle.plan.proofs.Spots.{layers-long, has-layer, size_of, layer-at}
 use Rattle.nearest.specs.declared.Near.{Near}
-use Rattle.nearest.specs.declared.NearestAnswer.{NearestAnswer}
-use Rattle.nearest.specs.Nearest.{nearest_cause, nearest_call}
+use Rattle.std.specs.Prelude.{Option, None, Result, Ok, Err}
+use Rattle.nearest.specs.Nearest.{nearest_cause, nearest_call, NearestValues, nearest_values}
 use Rattle.nearest.specs.Theorems.{IsNearest, empty, nearest, NearestTold}
 use Rattle.nearest.proofs.Answers.{box-passed, layer-part}
 use Rattle.nearest.proofs.Theorems.{nearest-holds}
-use Rattle.pairs.specs.declared.PairAnswer.{PairAnswer}
-use Rattle.pairs.specs.declared.PairAnswer.TheVariants.{Refused, Share, Pair}
-use Rattle.pairs.specs.PairCall.{pair_call}
-use Rattle.text.specs.declared.Reading.{Reading}
+use Rattle.pairs.specs.declared.Pair.{Pair}
+use Rattle.pairs.specs.PairCall.{apart, pair_call}
+use Rattle.text.specs.Reader.{ReadValues}
 use Rattle.printing.specs.Lines.{fields_end, line_of}
-use Rattle.printing.specs.inner.Parts.{FitsAt}
 use Rattle.outcomes.specs.declared.Reply.{Reply}
-use Rattle.outcomes.specs.Outcomes.{Told, refused, done}
+use Rattle.outcomes.specs.Outcomes.{Told, refused, done, done_reply}
 use Rattle.outcomes.specs.inner.Rooms.{Room}
 use Rattle.outcomes.proofs.Outcomes.{told_same, told-done}
 use Rattle.asking.specs.Lines.{share_line, apart_line, near_lines}
 use Rattle.asking.specs.Answers.{pair_outcome, apart_of, near_outcome, nearest_said}
-use Rattle.asking_code.specs.Parts.{most_gap, Measured, TextRead}
+use Rattle.asking_code.specs.Parts.{Small, Measured, TextRead}
 use Rattle.asking_code.proofs.Texts.{read-plan}
 use Rattle.asking_code.proofs.NearLines.{few, nears-few}
 
@@ -46,8 +44,8 @@ module _ (out err : List ℕ) (r : Room out err) where
   unfolding share_line line_of
   share-few = omega (arith, r.answer)
 
-  pub share-room : FitsAt out 0 share_line
-  share-room = record { fits = omega (arith, share-few) }
+  pub share-room : 0 + length share_line ≤ length out
+  share-room = omega (arith, share-few)
 
   module _ (lower higher : ℕ) where
     pub apart-few : length (apart_line lower higher) ≤ length out
@@ -61,27 +59,27 @@ module _ (out err : List ℕ) (r : Room out err) where
       length-append (decimal higher) (10 ∷ []),
     )
 
-    pub apart-room : FitsAt out 0 (apart_line lower higher)
-    apart-room = record { fits = omega (arith, apart-few) }
+    pub apart-room : 0 + length (apart_line lower higher) ≤ length out
+    apart-room = omega (arith, apart-few)
 
 -- ---- `apart`
-module _ (a b : PairAnswer) (e : a ≡ b) where
-  pub pair-refused : (n : ℕ) → a ≡ Refused n → pair_outcome b ≡ refused n
+module _ (a b : Result (Option Pair) ℕ) (e : a ≡ b) where
+  pub pair-refused : (n : ℕ) → a ≡ Err n → pair_outcome b ≡ refused n
   unfolding pair_outcome
   pair-refused n f = ap pair_outcome (sym e ∙ f)
 
   module _ (out err out_after : List ℕ) (n : ℕ) (r : Room out err) where
-    pub share-told : a ≡ Share → Put out 0 share_line out_after n → Told (pair_outcome b) out err out_after err (record { status = 0; out = n; err = 0 })
+    pub share-told : a ≡ Ok None → Put out 0 share_line out_after n → Told (pair_outcome b) out err out_after err (done_reply n)
     unfolding pair_outcome
     share-told f p = rw (sym e ∙ f) (told-done out err share_line out_after n (share-few out err r) p)
 
-    pub apart-told : (lower higher : ℕ) → a ≡ Pair lower higher → Put out 0 (apart_line lower higher) out_after n
-        → Told (pair_outcome b) out err out_after err (record { status = 0; out = n; err = 0 })
+    pub apart-told : (lower higher : ℕ) → a ≡ Ok (apart lower higher) → Put out 0 (apart_line lower higher) out_after n
+        → Told (pair_outcome b) out err out_after err (done_reply n)
     unfolding pair_outcome
     apart-told lower higher f p = rw (sym e ∙ f) (told-done out err (apart_line lower higher) out_after n (apart-few out err r lower higher) p)
 
 -- ---- `nearest`
-module _ (s : Shape) (cells : List ℤ) (a : Rect) (r : NearestAnswer) (e : r ≡ nearest_call s cells a) where
+module _ (s : Shape) (cells : List ℤ) (a : Rect) (r : NearestValues) (e : r ≡ nearest_values (nearest_call s cells a)) where
   pub near-refused : (r.number ≡ 0 → ⊥) → near_outcome s cells a ≡ refused r.number
   unfolding near_outcome
   near-refused h = rw (← e) (go r.number h)
@@ -95,26 +93,26 @@ module _ (s : Shape) (cells : List ℤ) (a : Rect) (r : NearestAnswer) (e : r �
     six = (checked s cells sound).high
 
     pub near-told : (out err out_after : List ℕ) (n : ℕ) → Room out err → Put out 0 (near_lines s.k r.layers) out_after n
-        → Told (near_outcome s cells a) out err out_after err (record { status = 0; out = n; err = 0 })
+        → Told (near_outcome s cells a) out err out_after err (done_reply n)
     unfolding near_outcome
     near-told out err out_after n room p =
         rw (← e, z) (told-done out err (near_lines s.k r.layers) out_after n (omega (arith, room.answer, nears-few s.k r.layers six)) p)
 
-    pub nears-room : (out err : List ℕ) → Room out err → FitsAt out 0 (near_lines s.k r.layers)
-    nears-room out err room = record { fits = omega (arith, room.answer, nears-few s.k r.layers six) }
+    pub nears-room : (out err : List ℕ) → Room out err → 0 + length (near_lines s.k r.layers) ≤ length out
+    nears-room out err room = omega (arith, room.answer, nears-few s.k r.layers six)
 
     pub six-layers : s.k ≤ 6
     six-layers = six
 
     -- the squared gaps of a plan and a box in range
-    pub measured : Measured r
-    measured = record { small = λ j h. rw e (small j h (told.accepted cause j h)) }
+    pub measured : Measured r.layers
+    measured = record { small = λ j h. rw e (small j h _ (told.accepted cause j h)) }
       where
         told : NearestTold s cells a
         told = nearest-holds.told s cells a
 
         cause : nearest_cause s cells a ≡ 0
-        cause = sym told.number ∙ (sym (ap (λ (x : NearestAnswer). x.number) e) ∙ z)
+        cause = sym told.number ∙ (sym (ap (λ (x : NearestValues). x.number) e) ∙ z)
 
         framed-sizes : Framed (sizes_of s) (grown s cells)
         framed-sizes = (framed s cells sound).1
@@ -127,12 +125,16 @@ module _ (s : Shape) (cells : List ℤ) (a : Rect) (r : NearestAnswer) (e : r �
             let k : p < get_or ns j 0 = omega (arith, size_of ns (grown s cells) j) in
             ap (λ (x : Layer). in_extent (x.rect p)) (layer-at ns (grown s cells) j l) ∙ (layer-part ns (grown s cells) j framed-sizes l (sum (take j ns)) part refl refl).ranged p k
 
-        small : (j : ℕ) → j < 6 → {near : Near} → IsNearest a (layer_at (layers s cells) j) near → near.gap ≤ most_gap
-        small j h (empty x) = omega arith
-        small j h (nearest p gap k x y w) = omega (arith, nearest-holds.bound 10000000 10050000 a ((layer_at (layers s cells) j).rect p) (box-passed s cells a cause) (ranged j p k))
+        small : (j : ℕ) → j < 6 → (near : Option Near) → IsNearest a (layer_at (layers s cells) j) near → Small near
+        small j h _ (empty x) = record { most = λ e q. cc }
+        small j h _ (nearest p gap k x y w) = record {
+          most = λ e q.
+              let same : record { place = p; gap = gap } ≡ e = cc in
+              omega (arith, ap (λ (n : Near). n.gap) same, x, nearest-holds.bound 10000000 10050000 a ((layer_at (layers s cells) j).rect p) (box-passed s cells a cause) (ranged j p k));
+        }
 
 -- ---- what is told of a plan that was read is told of its text
-module _ (t : List ℕ) (r : Reading) (lent : List ℤ) (read : TextRead t r lent) (h : r.number ≡ 0) (n : ℕ) (e : n ≡ sum r.shape.sizes) (out err out_after errAfter : List ℕ) (reply : Reply) where
+module _ (t : List ℕ) (r : ReadValues) (lent : List ℤ) (read : TextRead t r lent) (h : r.number ≡ 0) (n : ℕ) (e : n ≡ sum r.shape.sizes) (out err out_after errAfter : List ℕ) (reply : Reply) where
   pub apart-read : (places : List ℕ) → Told (pair_outcome (pair_call r.shape (take (4 * n) lent) places)) out err out_after errAfter reply
       → Told (apart_of t places) out err out_after errAfter reply
   apart-read places k = told_same _ out err out_after errAfter reply _ k (read-plan t r lent read h n e (λ s cells. pair_outcome (pair_call s cells places)))

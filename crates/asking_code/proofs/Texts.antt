@@ -11,21 +11,29 @@ use Rattle.plan.specs.declared.Shape.{Shape}
 use Rattle.plan.specs.Causes.{on_cause}
 use Rattle.plan.specs.Plan.{Sound}
 use Rattle.plan.specs.Limits.{most_cells}
-use Rattle.text.specs.declared.Reading.{Reading}
-use Rattle.text.specs.Reader.{read_cause, text_shape, text_cells, read_answer, cells_after}
+use Rattle.std.specs.Prelude.{Result, Ok, Err}
+use Rattle.plan.specs.declared.cause.Cause.{Cause}
+use Rattle.plan.specs.Causes.{refusal, by_number}
+use Rattle.text.specs.Reader.{ReadValues}
+use Rattle.text.specs.Reader.{read_cause, text_shape, text_cells, read_answer, read_values, cells_after}
 use Rattle.reporting.proofs.Texts.{plan-lent, shape-read, first_read}
 use Rattle.reporting.proofs.Reports.{lent-sound, lent-inside}
 use Rattle.outcomes.specs.Outcomes.{Outcome, refused}
 use Rattle.asking.specs.Answers.{text_cause, on_plan}
 use Rattle.asking_code.specs.Parts.{TextRead}
 
+-- the number of a reader's answer
+pub told-number : (r : Result Shape Cause) → (read_values (by_number r)).number ≡ refusal r
+told-number (Ok s) = refl
+told-number (Err c) = refl
+
 -- a text that is too long
-pub long-read : (t : List ℕ) (r : Reading) (lent : List ℤ) → 65536 < length t → r.number ≡ 13 → TextRead t r lent
+pub long-read : (t : List ℕ) (r : ReadValues) (lent : List ℤ) → 65536 < length t → r.number ≡ 13 → TextRead t r lent
 unfolding text_cause
 long-read t r lent h e = record { number = e ∙ rw (lt-leb (length t) 65536 h); plan = λ z. absurd (omega (arith, z, e)) }
 
 -- any other, where cells for any plan are lent
-pub short-read : (t : List ℕ) (cells after : List ℤ) (r : Reading) → length t ≤ 65536 → length cells ≡ most_cells → r ≡ read_answer (length cells) t
+pub short-read : (t : List ℕ) (cells after : List ℤ) (r : ReadValues) → length t ≤ 65536 → length cells ≡ most_cells → r ≡ read_values (read_answer (length cells) t)
     → r.number ≡ read_cause (length cells) t → after ≡ cells_after t cells → TextRead t r after
 unfolding text_cause
 short-read t cells after r short long e f g = record {
@@ -37,7 +45,7 @@ short-read t cells after r short long e f g = record {
   };
 }
 
-module _ (t : List ℕ) (r : Reading) (lent : List ℤ) (read : TextRead t r lent) where
+module _ (t : List ℕ) (r : ReadValues) (lent : List ℤ) (read : TextRead t r lent) where
   -- a text that is refused
   pub read-refused : (told : Shape → List ℤ → Outcome) → (r.number ≡ 0 → ⊥) → on_plan t told ≡ refused r.number
   unfolding on_plan

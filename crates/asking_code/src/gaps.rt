@@ -1,80 +1,48 @@
 // The lines of `nearest`.
-ghost use Rattle.std.specs.Prelude.{[], ◌∷◌, ◌≤◌};
-ghost use Rattle.decimal.specs.Numerals.{decimal};
-ghost use Rattle.lists.specs.inner.Stores.{Put};
-ghost use Rattle.printing.specs.Lines.{fields_end};
-ghost use Rattle.printing.specs.inner.Parts.{FitsAt};
-ghost use Rattle.asking.specs.Lines.{millimetres, near_line};
-ghost use Rattle.asking_code.specs.Parts.{most_gap, none_line, found_line};
+#![tactic(auto, using(pens::proofs::Pens::writing))]
+
+ghost use Rattle.std.specs.Prelude.{◌≡◌, ◌≤◌};
+ghost use Rattle.pens.specs.Pens.{RoomFor, wrote};
+ghost use Rattle.asking.specs.Lines.{near_line};
+ghost use Rattle.asking_code.specs.Parts.{Small, most_gap, none_line, found_line};
 
 use crate::roots::whole_root;
 use nearest::Near;
-use printing_code::{end_line, put_field, put_last, put_metres};
-use speller::put_word;
+use pens::Pen;
+use printing_code::lines::{put_field, put_last, put_metres};
 
-// The line of what lies nearest in a layer; the place behind it.
-pub fn put_near(buf: &mut [u8], at: usize, layer: u32, e: Near) -> usize
-    requires { (e.gap ≤ most_gap) × FitsAt buf.old at (near_line layer e) }
-    ensures { Put buf.old at (near_line layer e) buf.new result }
+// The line of what lies nearest in a layer.
+pub fn put_near(pen: &mut Pen, layer: u32, entry: Option<Near>)
+    requires { Small entry × RoomFor pen.old (near_line layer entry) }
+    ensures { pen.new ≡ wrote pen.old (near_line layer entry) }
 {
-    if e.found {
-        return put_found(buf, at, layer, e.place, e.gap);
+    match entry {
+        Some(near) => put_found(pen, layer, near.place, near.gap),
+        None => put_none(pen, layer),
     }
-    put_none(buf, at, layer)
 }
 
 // The line of a layer that has no rectangle.
-fn put_none(buf: &mut [u8], at: usize, layer: u32) -> usize
-    requires { FitsAt buf.old at (none_line layer) }
-    ensures { Put buf.old at (none_line layer) buf.new result }
+#[tactic(auto, using(pens::proofs::Pens::writing), unfolding(asking::specs::Lines::near_line, printing::specs::Lines::line_of))]
+fn put_none(pen: &mut Pen, layer: u32)
+    requires { RoomFor pen.old (none_line layer) }
+    ensures { pen.new ≡ wrote pen.old (none_line layer) }
 {
-    let a = put_word(buf, at, b"NONE");
-    put_last(buf, a, layer as u64)
+    pen.put(b"NONE");
+    put_last(pen, layer as u64);
 }
 
-// The line of a place and its squared gap.
-fn put_found(buf: &mut [u8], at: usize, layer: u32, place: u32, gap: u64) -> usize
-    requires { (gap ≤ most_gap) × FitsAt buf.old at (found_line layer place gap) }
-    ensures { Put buf.old at (found_line layer place gap) buf.new result }
+// The line of a place and its squared gap: the gap is in millimetres, the root of the squared one in hundredths.
+#[tactic(auto, using(pens::proofs::Pens::writing), unfolding(asking::specs::Lines::near_line, printing::specs::Lines::line_of, printing::specs::Lines::square_metres))]
+fn put_found(pen: &mut Pen, layer: u32, place: u32, gap: u64)
+    requires { (gap ≤ most_gap) × RoomFor pen.old (found_line layer place gap) }
+    ensures { pen.new ≡ wrote pen.old (found_line layer place gap) }
 {
-    let a = put_word(buf, at, b"NEAR");
-    put_spot(buf, a, layer, place, gap)
-}
-
-// The same from its layer on; the place behind it.
-fn put_spot(buf: &mut [u8], at: usize, layer: u32, place: u32, gap: u64) -> usize
-    requires { (gap ≤ most_gap) × FitsAt buf.old at (fields_end (decimal layer ∷ decimal place ∷ decimal gap ∷ millimetres gap ∷ [])) }
-    ensures { Put buf.old at (fields_end (decimal layer ∷ decimal place ∷ decimal gap ∷ millimetres gap ∷ []))
-        buf.new result }
-{
-    let a = put_field(buf, at, layer as u64);
-    put_place(buf, a, place, gap)
-}
-
-// The same from its place on; the place behind it.
-fn put_place(buf: &mut [u8], at: usize, place: u32, gap: u64) -> usize
-    requires { (gap ≤ most_gap) × FitsAt buf.old at (fields_end (decimal place ∷ decimal gap ∷ millimetres gap ∷ [])) }
-    ensures { Put buf.old at (fields_end (decimal place ∷ decimal gap ∷ millimetres gap ∷ [])) buf.new result }
-{
-    let a = put_field(buf, at, place as u64);
-    put_gaps(buf, a, gap)
-}
-
-// The same from its squared gap on; the place behind it.
-fn put_gaps(buf: &mut [u8], at: usize, gap: u64) -> usize
-    requires { (gap ≤ most_gap) × FitsAt buf.old at (fields_end (decimal gap ∷ millimetres gap ∷ [])) }
-    ensures { Put buf.old at (fields_end (decimal gap ∷ millimetres gap ∷ [])) buf.new result }
-{
-    let a = put_field(buf, at, gap);
-    put_millimetres(buf, a, gap)
-}
-
-// A gap in millimetres, and the byte that ends the line; the place behind it.
-fn put_millimetres(buf: &mut [u8], at: usize, gap: u64) -> usize
-    requires { (gap ≤ most_gap) × FitsAt buf.old at (fields_end (millimetres gap ∷ [])) }
-    ensures { Put buf.old at (fields_end (millimetres gap ∷ [])) buf.new result }
-{
-    let h = whole_root(10000 * gap);
-    let a = put_metres(buf, at, h / 100, h);
-    end_line(buf, a)
+    let hundredths = whole_root(10000 * gap);
+    pen.put(b"NEAR");
+    put_field(pen, layer as u64);
+    put_field(pen, place as u64);
+    put_field(pen, gap);
+    put_metres(pen, hundredths / 100, hundredths);
+    pen.put_byte(b'\n');
 }

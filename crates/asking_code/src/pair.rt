@@ -1,10 +1,7 @@
 // The command `apart`.
-ghost use Rattle.std.specs.Prelude.{[], ◌∷◌};
-ghost use Rattle.decimal.specs.Numerals.{decimal};
-ghost use Rattle.lists.specs.inner.Stores.{Put};
+ghost use Rattle.std.specs.Prelude.{◌≡◌};
 ghost use Rattle.pairs.specs.PairCall.{pair_call};
-ghost use Rattle.printing.specs.Lines.{fields_end};
-ghost use Rattle.printing.specs.inner.Parts.{FitsAt};
+ghost use Rattle.pens.specs.Pens.{RoomFor, wrote};
 ghost use Rattle.outcomes.specs.Outcomes.{Told};
 ghost use Rattle.outcomes.specs.inner.Rooms.{Room};
 ghost use Rattle.asking.specs.Lines.{share_line, apart_line};
@@ -13,12 +10,11 @@ ghost use Rattle.asking.specs.Answers.{pair_outcome, apart_of};
 use crate::plans::read_text;
 use outcomes::Reply;
 use outcomes_code::put_refusal;
-use pairs::PairAnswer;
 use pairs_code::apart_pair;
+use pens::Pen;
 use plan::{MOST_CELLS, Shape};
 use plan_code::count_of;
-use printing_code::{end_line, put_field, put_last};
-use speller::put_word;
+use printing_code::lines::{put_field, put_last};
 
 // Whether the rectangles at the places share a point, or the first two layers whose two do not meet.
 pub fn apart(text: &[u8], places: &[u32], out: &mut [u8], err: &mut [u8]) -> Reply
@@ -27,13 +23,13 @@ pub fn apart(text: &[u8], places: &[u32], out: &mut [u8], err: &mut [u8]) -> Rep
         out.old err.old out.new err.new result }
 {
     let mut cells = [0i32; MOST_CELLS];
-    let reading = read_text(text, &mut cells);
-    if reading.number != 0 {
-        return put_refusal(out, err, reading.number);
+    match read_text(text, &mut cells) {
+        Ok(shape) => {
+            let n = 4 * count_of(shape);
+            tell_apart(shape, &cells[..n], places, out, err)
+        }
+        Err(cause) => put_refusal(out, err, cause),
     }
-    let shape = reading.shape;
-    let n = 4 * count_of(shape);
-    tell_apart(shape, &cells[..n], places, out, err)
 }
 
 // The same of a plan.
@@ -43,49 +39,36 @@ fn tell_apart(shape: Shape, cells: &[i32], places: &[u32], out: &mut [u8], err: 
         out.old err.old out.new err.new result }
 {
     match apart_pair(shape, cells, places) {
-        PairAnswer::Refused(cause) => put_refusal(out, err, cause),
-        PairAnswer::Share => {
-            let n = put_share(out, 0);
-            Reply {
-                status: 0,
-                out: n,
-                err: 0,
-            }
+        Err(cause) => put_refusal(out, err, cause),
+        Ok(None) => {
+            let mut pen = Pen { buf: out, at: 0 };
+            put_share(&mut pen);
+            Reply::done(pen.at)
         }
-        PairAnswer::Pair(lower, higher) => {
-            let n = put_apart(out, 0, lower, higher);
-            Reply {
-                status: 0,
-                out: n,
-                err: 0,
-            }
+        Ok(Some(pair)) => {
+            let mut pen = Pen { buf: out, at: 0 };
+            put_apart(&mut pen, pair.lower, pair.higher);
+            Reply::done(pen.at)
         }
     }
 }
 
-// The SHARE line; the place behind it.
-fn put_share(buf: &mut [u8], at: usize) -> usize
-    requires { FitsAt buf.old at share_line }
-    ensures { Put buf.old at share_line buf.new result }
+// The SHARE line.
+#[tactic(auto, using(pens::proofs::Pens::writing), unfolding(asking::specs::Lines::share_line, printing::specs::Lines::line_of))]
+fn put_share(pen: &mut Pen)
+    requires { RoomFor pen.old share_line }
+    ensures { pen.new ≡ wrote pen.old share_line }
 {
-    let a = put_word(buf, at, b"SHARE");
-    end_line(buf, a)
+    pen.put(b"SHARE\n");
 }
 
-// The APART line; the place behind it.
-fn put_apart(buf: &mut [u8], at: usize, lower: u32, higher: u32) -> usize
-    requires { FitsAt buf.old at (apart_line lower higher) }
-    ensures { Put buf.old at (apart_line lower higher) buf.new result }
+// The APART line.
+#[tactic(auto, using(pens::proofs::Pens::writing), unfolding(asking::specs::Lines::apart_line, printing::specs::Lines::line_of))]
+fn put_apart(pen: &mut Pen, lower: u32, higher: u32)
+    requires { RoomFor pen.old (apart_line lower higher) }
+    ensures { pen.new ≡ wrote pen.old (apart_line lower higher) }
 {
-    let a = put_word(buf, at, b"APART");
-    put_two_layers(buf, a, lower, higher)
-}
-
-// The same from its lower layer on; the place behind it.
-fn put_two_layers(buf: &mut [u8], at: usize, lower: u32, higher: u32) -> usize
-    requires { FitsAt buf.old at (fields_end (decimal lower ∷ decimal higher ∷ [])) }
-    ensures { Put buf.old at (fields_end (decimal lower ∷ decimal higher ∷ [])) buf.new result }
-{
-    let a = put_field(buf, at, lower as u64);
-    put_last(buf, a, higher as u64)
+    pen.put(b"APART");
+    put_field(pen, lower as u64);
+    put_last(pen, higher as u64);
 }

@@ -6,15 +6,5 @@ ghost use Rattle.asking.specs.Roots.{root};
 pub fn whole_root(n: u64) -> u64
     ensures { result ≡ root n }
 {
-    let mut low: u64 = 0;
-    let mut high: u64 = 4294967296;
-    while low + 1 < high {
-        let middle = (low + high) / 2;
-        if middle * middle <= n {
-            low = middle;
-        } else {
-            high = middle;
-        }
-    }
-    low
+    n.isqrt()
 }

@@ -1,35 +1,23 @@
--- Laws of cells that are copied one by one, and of the parts that are so put together.
-use mathlib.Core.Path.{◌≡◌}
-use mathlib.Core.List.{List, ◌∷◌, ◌++◌}
-use Prim.Native.Nat.{ℕ, ◌+◌, ◌*◌, ◌≤◌, ◌<◌}
-use native.Mathlib.Numerals.{add-one}
+-- Laws of cells that are copied, and of the parts that are so put together.
+use mathlib.Core.Path.{◌≡◌, sym, ap, ◌∙◌}
+use mathlib.Core.List.{List, ◌++◌, append_assoc}
+use Prim.Native.Nat.{ℕ, ◌+◌, ◌*◌, ◌≤◌}
 use native.Mathlib.Omega.{arith}
-use lib.IntN.{ℤ, pos}
-use lib.ListN.{length, get_or, set, take, drop, drop_of_length-le, length-take}
-use lib.Seq.{drop-cons}
+use lib.IntN.{ℤ}
+use lib.ListN.{length, get_or, take, drop, length-take}
+use lib.Seq.{drop-drop, sets-eq}
+use borrow.Rule.Slice.PartMut.{put_mid}
 use Rattle.lists.specs.Lists.{sum}
 use Rattle.lists.specs.inner.Stores.{Put}
-use Rattle.lists.proofs.Stores.{Left, left-all, left-byte, left-put, left-last, left-none, put-length}
+use Rattle.lists.proofs.Stores.{left-all, left-put, left-last, put-length}
 use Rattle.asking_runs_code.specs.Parts.{part_of, LayerThere}
 
-module _ (first : List ℤ) (at : ℕ) (part : List ℤ) where
-  -- the first i are copied, the others are left
-  pub record Copied (run : List ℤ) (i : ℕ) : Type 0 where
-    pub within : i ≤ length part
-    pub left : Left first at part run (at + i) (drop i part)
-
-  pub none-copied : Copied first 0
-  none-copied = let e : at + 0 ≡ at = omega arith in record { within = omega arith; left = rw e (left-all first at part) }
-
-  module _ (run : List ℤ) (i : ℕ) (c : Copied run i) where
-    pub one-copied : i < length part → (x : ℤ) → x ≡ get_or part i (pos 0) → Copied (set run (at + i) x) (i + 1)
-    one-copied h x q =
-        let e : at + (i + 1) ≡ at + i + 1 = omega arith in
-        let d : drop i part ≡ get_or part i (pos 0) ∷ drop (i + 1) part = rw (add-one, drop-cons part i (pos 0) h) in
-        record { within = omega arith; left = rw (e, q) (left-byte first at part run (at + i) (get_or part i (pos 0)) (drop (i + 1) part) (rw d at c.left)) }
-
-    pub all-copied : length part ≤ i → Put first at part run (at + i)
-    all-copied h = left-none first at part run (at + i) (rw (drop_of_length-le part h) at c.left)
+-- a run put by way of its part of the buffer
+pub put_copied : (buf cells ys : List ℤ) (at k : ℕ) → at + k ≤ length buf → k ≡ length cells → ys ≡ cells → Put buf at cells (put_mid at k buf ys) (at + k)
+put_copied buf cells ys at k h e q = record {
+  place = omega (arith, e);
+  stored = rw (q, e) (ap (λ (l : List ℤ). take at buf ++ (cells ++ l)) (drop-drop (length cells) at buf) ∙ (sym (append_assoc (take at buf) cells (drop (at + length cells) buf)) ∙ sym (sets-eq cells buf at (omega (arith, h, e)))));
+}
 
 -- ---- the cells of the layer at i
 module _ (sizes : List ℕ) (cells : List ℤ) (i : ℕ) (h : LayerThere sizes cells i) where

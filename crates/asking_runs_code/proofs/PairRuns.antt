@@ -21,8 +21,9 @@ use Rattle.rows.specs.Tables.{rows_in}
 use Rattle.rows.specs.inner.TableRows.{TableRows}
 use Rattle.rows.proofs.TableRows.{table-rows}
 use Rattle.totals.specs.declared.Total.{Total}
-use Rattle.paging.specs.declared.Run.{Run}
-use Rattle.paging.specs.declared.Run.TheVariants.{Refused, Done}
+use Rattle.paging.specs.Answers.{Run}
+use Rattle.std.specs.Prelude.{Ok, Err}
+use Rattle.paging.specs.Answers.{ran as finished}
 use Rattle.paging.specs.Overlays.{overlay}
 use Rattle.paging.specs.Pages.{room}
 use Rattle.paging.specs.Calls.{run_cause, run_call, run_table, run_values, WorkAfter}
@@ -34,8 +35,8 @@ use Rattle.asking_runs_code.specs.Parts.{lines_of_two}
 use Rattle.asking_runs_code.specs.Listing.{most_pair_cells, Lent, Twofold, TwoListable, TwoListed, Ran}
 
 abbrev is-done : Run → Bool
-is-done (Refused cause) = false
-is-done (Done rows probes area ground) = true
+is-done (Err cause) = false
+is-done (Ok done) = true
 
 module _ (s : Shape) (cells : List ℤ) (lower higher : ℕ) (t : Twofold s cells lower higher) where
   abbrev order : List ℕ
@@ -74,10 +75,10 @@ module _ (s : Shape) (cells : List ℤ) (lower higher : ℕ) (t : Twofold s cell
     done-is : is-done run ≡ true
     done-is = ap is-done (r.answer ∙ (run-told r.before r.long).done (never-refused r.before r.long))
 
-    pub not-refused : (cause : ℕ) → run ≡ Refused cause → ⊥
+    pub not-refused : (cause : ℕ) → run ≡ Err cause → ⊥
     not-refused cause e = clash done-is (ap is-done e)
 
-    module _ (rows probes : ℕ) (area total : Total) (e : run ≡ Done rows probes area total) where
+    module _ (rows probes : ℕ) (area total : Total) (e : run ≡ finished rows probes area total) where
       rows_are : rows ≡ length (plan_table s cells)
       rows_are = ap (λ (x : Run). (run_values x).rows) (sym e ∙ (r.answer ∙ (run-told r.before r.long).done (never-refused r.before r.long)))
 

@@ -12,13 +12,12 @@ use Rattle.lists.proofs.Stores.{put-length}
 use Rattle.decimal.specs.Numerals.{decimal}
 use Rattle.plan.specs.declared.Shape.{Shape}
 use Rattle.plan.specs.Plan.{Sound}
-use Rattle.text.specs.declared.Reading.{Reading}
+use Rattle.text.specs.Reader.{ReadValues}
 use Rattle.printing.specs.Lines.{line_of}
-use Rattle.printing.specs.inner.Parts.{FitsAt}
 use Rattle.printing.proofs.Puts.{put_both}
 use Rattle.outcomes.specs.declared.Reply.{Reply}
 use Rattle.outcomes.specs.Texts.{ascii}
-use Rattle.outcomes.specs.Outcomes.{Told, misused}
+use Rattle.outcomes.specs.Outcomes.{Told, misused, done_reply}
 use Rattle.outcomes.specs.inner.Rooms.{Room}
 use Rattle.outcomes.proofs.Outcomes.{told_same, told-done}
 use Rattle.asking.specs.Pairs.{pair_rows}
@@ -52,20 +51,18 @@ module _ (s : Shape) (cells : List ℤ) (layer : ℕ) (sound : Sound s cells) (o
   }
 
   module _ (mid : List ℕ) (r : Listed) (l : Lists (two_line s cells) (pair_rows s cells layer) out start mid r) where
-    pub count_room : FitsAt mid r.at (count_line r.rows)
-    count_room = record {
-      fits = omega (
-        arith,
-        room.answer,
-        l.put.place,
-        lines-few s cells sound layer,
-        count-few r.rows,
-        put-length out mid _ 0 r.at l.put,
-      );
-    }
+    pub count_room : r.at + length (count_line r.rows) ≤ length mid
+    count_room = omega (
+      arith,
+      room.answer,
+      l.put.place,
+      lines-few s cells sound layer,
+      count-few r.rows,
+      put-length out mid _ 0 r.at l.put,
+    )
 
     pub pairs-told : (last : List ℕ) (n : ℕ) → layer ≤ s.k → Put mid r.at (count_line r.rows) last n
-        → Told (pairs_outcome s cells layer) out err last err (record { status = 0; out = n; err = 0 })
+        → Told (pairs_outcome s cells layer) out err last err (done_reply n)
     unfolding pairs_outcome
     pairs-told last n h p =
         let rows = pair_rows s cells layer in
@@ -77,7 +74,7 @@ module _ (s : Shape) (cells : List ℤ) (layer : ℕ) (sound : Sound s cells) (o
         (told-done out err (pair_lines s cells layer) last n few_bytes (put_both out 0 lines (count_line r.rows) mid r.at (pair_lines s cells layer) last n l.put p (ap (λ (m : ℕ). lines ++ count_line m) (sym c))))
 
 -- what is told of a plan that was read is told of its text
-pub pairs-read : (t : List ℕ) (r : Reading) (lent : List ℤ) → TextRead t r lent → r.number ≡ 0 → (n : ℕ) → n ≡ sum r.shape.sizes → (out err out_after errAfter : List ℕ) (reply : Reply)
+pub pairs-read : (t : List ℕ) (r : ReadValues) (lent : List ℤ) → TextRead t r lent → r.number ≡ 0 → (n : ℕ) → n ≡ sum r.shape.sizes → (out err out_after errAfter : List ℕ) (reply : Reply)
     (layer : ℕ) → Told (pairs_outcome r.shape (take (4 * n) lent) layer) out err out_after errAfter reply → Told (pairs_of t layer) out err out_after errAfter reply
 pairs-read t r lent read h n e out err out_after errAfter reply layer k =
     told_same _ out err out_after errAfter reply _ k (read-plan t r lent read h n e (λ s cells. pairs_outcome s cells layer))

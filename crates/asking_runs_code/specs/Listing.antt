@@ -7,7 +7,7 @@ use Rattle.plan.specs.declared.Shape.{Shape}
 use Rattle.plan.specs.Plan.{grown, layers, Sound}
 use Rattle.sweep.specs.Sweep.{sweep_order}
 use Rattle.join.specs.Table.{plan_table}
-use Rattle.paging.specs.declared.Run.{Run}
+use Rattle.paging.specs.Answers.{Run}
 use Rattle.paging.specs.Calls.{run_call, run_table}
 use Rattle.printing.specs.inner.Parts.{FitsAt}
 use Rattle.asking.specs.Pairs.{PairRow, rows_of_two, asked}

@@ -25,10 +25,8 @@ pub fn list_all(
 {
     let k = shape.k as usize;
     let mut listed = from;
-    let mut i: usize = 0;
-    while i < k {
+    for i in 0..k {
         listed = list_with(shape, cells, layer, i, table, work, out, listed);
-        i += 1;
     }
     listed
 }
@@ -51,10 +49,8 @@ fn list_with(
 {
     let k = shape.k as usize;
     let mut listed = from;
-    let mut j = i + 1;
-    while j < k {
+    for j in i + 1..k {
         listed = list_asked(shape, cells, layer, i, j, table, work, out, listed);
-        j += 1;
     }
     listed
 }
@@ -87,12 +83,6 @@ fn is_asked(layer: u32, i: usize, j: usize) -> bool
     requires { (i < 6) × (j < 6) }
     ensures { result ≡ asked layer i j }
 {
-    if layer == 0 {
-        return true;
-    }
     let n = layer as usize;
-    if n == i + 1 {
-        return true;
-    }
-    n == j + 1
+    n == 0 || (n == i + 1 || n == j + 1)
 }

@@ -1,5 +1,6 @@
 // The rows of two layers of a plan, listed.
 ghost use Rattle.std.specs.Prelude.{◌≡◌, ◌≤◌, ◌<◌, length};
+ghost use Rattle.plan.specs.Causes.{by_number};
 ghost use Rattle.plan.specs.Plan.{count, grown, layers, Sound};
 ghost use Rattle.sweep.specs.Sweep.{sweep_order};
 ghost use Rattle.rows.specs.Tables.{rows_in};
@@ -14,8 +15,9 @@ ghost use Rattle.asking_runs_code.specs.Listing.{Lent, Listable, Lists, Twofold,
 use crate::Listed;
 use crate::lines::put_pair_rows;
 use crate::two::{put_two, two_shape};
-use paging::Run;
-use plan::{MOST_CELLS, MOST_RECTS, Shape};
+use paging::Done;
+use pens::Pen;
+use plan::{Cause, MOST_CELLS, MOST_RECTS, Shape};
 use plan_code::grow_plan;
 use runner::run_all;
 use sweep_code::make_order;
@@ -100,7 +102,7 @@ fn list_sound(
     ensures { TwoListed shape cells.now lower higher out.old from out.new result
         × Lent table.new work.new }
 {
-    make_order(shape, cells, order);
+    let _ = make_order(shape, cells, order);
     list_ordered(shape, cells, lower, higher, order, table, work, out, from)
 }
 
@@ -127,7 +129,7 @@ fn list_ordered(
 
 // What the whole run answered, and the table that it left. It is never refused.
 fn list_run(
-    run: Run,
+    run: Result<Done, Cause>,
     shape: Shape,
     cells: &[i32],
     lower: u32,
@@ -137,12 +139,13 @@ fn list_run(
     from: Listed,
 ) -> Listed
     requires { Twofold shape cells.now lower higher × TwoListable shape cells.now lower higher out.old from
-        × Ran shape cells.now run table.now }
+        × Ran shape cells.now (by_number run) table.now }
     ensures { TwoListed shape cells.now lower higher out.old from out.new result }
 {
     match run {
-        Run::Refused(_) => from,
-        Run::Done(rows, _, _, _) => {
+        Err(_) => from,
+        Ok(done) => {
+            let rows = done.rows;
             let all = from.rows + rows;
             let at = put_grown(out, from.at, shape, cells, table, rows, lower, higher);
             Listed { at, rows: all }
@@ -150,7 +153,7 @@ fn list_run(
     }
 }
 
-// The lines of the rows that the table of a sound plan has; the place behind them.
+// The lines of the rows that the table of a sound plan has; the place behind them. `Listed` carries a place through the loops over layers.
 fn put_grown(
     out: &mut [u8],
     at: usize,
@@ -170,9 +173,9 @@ fn put_grown(
     let mut run = [0i32; MOST_CELLS];
     grow_plan(shape, cells, &mut run);
     let n = cells.len();
+    let mut pen = Pen { buf: out, at };
     put_pair_rows(
-        out,
-        at,
+        &mut pen,
         &shape.sizes,
         shape.k as usize,
         &run[..n],
@@ -180,5 +183,6 @@ fn put_grown(
         rows as usize,
         lower,
         higher,
-    )
+    );
+    pen.at
 }

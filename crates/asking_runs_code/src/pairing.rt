@@ -1,7 +1,7 @@
 // The command `pairs`.
-ghost use Rattle.lists.specs.inner.Stores.{Put};
+ghost use Rattle.std.specs.Prelude.{◌≡◌};
+ghost use Rattle.pens.specs.Pens.{RoomFor, wrote};
 ghost use Rattle.plan.specs.Plan.{Sound};
-ghost use Rattle.printing.specs.inner.Parts.{FitsAt};
 ghost use Rattle.outcomes.specs.Outcomes.{Told};
 ghost use Rattle.outcomes.specs.inner.Rooms.{Room};
 ghost use Rattle.asking.specs.Lines.{count_line};
@@ -13,10 +13,10 @@ use crate::every::list_all;
 use asking_code::read_text;
 use outcomes::Reply;
 use outcomes_code::{put_misuse, put_refusal};
+use pens::Pen;
 use plan::{MOST_CELLS, Shape};
 use plan_code::count_of;
-use printing_code::put_last;
-use speller::put_word;
+use printing_code::lines::put_last;
 
 // The rows of each two layers; with the number of a layer, of each two of which it is one. 0 asks for all.
 pub fn pairs(
@@ -31,13 +31,13 @@ pub fn pairs(
     ensures { Told (pairs_of text.now layer) out.old err.old out.new err.new result }
 {
     let mut cells = [0i32; MOST_CELLS];
-    let reading = read_text(text, &mut cells);
-    if reading.number != 0 {
-        return put_refusal(out, err, reading.number);
+    match read_text(text, &mut cells) {
+        Ok(shape) => {
+            let n = 4 * count_of(shape);
+            tell_pairs(shape, &cells[..n], layer, table, work, out, err)
+        }
+        Err(cause) => put_refusal(out, err, cause),
     }
-    let shape = reading.shape;
-    let n = 4 * count_of(shape);
-    tell_pairs(shape, &cells[..n], layer, table, work, out, err)
 }
 
 // The same of a sound plan.
@@ -65,19 +65,20 @@ fn tell_pairs(
         out,
         Listed { at: 0, rows: 0 },
     );
-    let n = put_count(out, listed.at, listed.rows);
-    Reply {
-        status: 0,
-        out: n,
-        err: 0,
-    }
+    let mut pen = Pen {
+        buf: out,
+        at: listed.at,
+    };
+    put_count(&mut pen, listed.rows);
+    Reply::done(pen.at)
 }
 
-// The TOTAL line; the place behind it.
-fn put_count(buf: &mut [u8], at: usize, rows: u32) -> usize
-    requires { FitsAt buf.old at (count_line rows) }
-    ensures { Put buf.old at (count_line rows) buf.new result }
+// The TOTAL line.
+#[tactic(auto, using(pens::proofs::Pens::writing), unfolding(asking::specs::Lines::count_line, printing::specs::Lines::line_of))]
+fn put_count(pen: &mut Pen, rows: u32)
+    requires { RoomFor pen.old (count_line rows) }
+    ensures { pen.new ≡ wrote pen.old (count_line rows) }
 {
-    let a = put_word(buf, at, b"TOTAL");
-    put_last(buf, a, rows as u64)
+    pen.put(b"TOTAL");
+    put_last(pen, rows as u64);
 }

@@ -48,10 +48,7 @@ fn put_cells(run: &mut [i32], at: usize, part: &[i32]) -> usize
     requires { at + length part.now ≤ length run.old }
     ensures { Put run.old at part.now run.new result }
 {
-    let mut i: usize = 0;
-    while i < part.len() {
-        run[at + i] = part[i];
-        i += 1;
-    }
-    at + i
+    let end = at + part.len();
+    run[at..end].copy_from_slice(part);
+    end
 }

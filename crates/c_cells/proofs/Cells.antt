@@ -23,10 +23,11 @@ use Rattle.plan.specs.Causes.{on_cause}
 use Rattle.totals.specs.declared.Total.{Total}
 use Rattle.totals.specs.Totals.{total_of}
 use Rattle.survey.specs.declared.Strip.TheVariants.{Between}
-use Rattle.paging.specs.declared.Run.{Run}
-use Rattle.paging.specs.declared.Run.TheVariants.{Refused, Done}
+use Rattle.paging.specs.Answers.{Run}
+use Rattle.std.specs.Prelude.{Err}
+use Rattle.paging.specs.Answers.{ran}
 use Rattle.paging.specs.declared.Cursor.{Cursor}
-use Rattle.paging.specs.declared.Page.{Page}
+use Rattle.paging.specs.Answers.{PageValues}
 use Rattle.paging.specs.declared.Ticket.{Ticket}
 use Rattle.paging.specs.Calls.{stop_number, run_values}
 use Rattle.c_cells.specs.Cells.{ticket_cells, no_cursor, cursor_in, ticket_after, run_cells, strip_in}
@@ -59,21 +60,21 @@ choice zero a b some = absurd (some refl)
 choice (suc n) a b some = refl
 
 -- a refusal keeps the ticket's cells
-pub after-refused : (given : List ℕ) (p : Page) (n : ℕ) → n ≡ stop_number p.stop → (n ≡ 0 → ⊥) → given ≡ ticket_after given p
+pub after-refused : (given : List ℕ) (p : PageValues) (n : ℕ) → n ≡ stop_number p.stop → (n ≡ 0 → ⊥) → given ≡ ticket_after given p
 after-refused given p n told some = choice (stop_number p.stop) (ticket_cells p.ticket) given (λ none. some (told ∙ none))
 
 -- an accepted page leaves the ticket for what is due next
-pub after-due : (given : List ℕ) (p : Page) (n : ℕ) → n ≡ stop_number p.stop → n ≡ 0 → ticket_cells p.ticket ≡ ticket_after given p
+pub after-due : (given : List ℕ) (p : PageValues) (n : ℕ) → n ≡ stop_number p.stop → n ≡ 0 → ticket_cells p.ticket ≡ ticket_after given p
 after-due given p n told none = sym (ap (λ m. on_cause m (ticket_cells p.ticket) (λ i. given)) (sym told ∙ none))
 
 -- ---- whole runs
 -- a refusal has cells of 0
-pub run_none : {r : Run} {cause : ℕ} → Refused cause ≡ r → 0 ∷ 0 ∷ 0 ∷ 0 ∷ 0 ∷ 0 ∷ [] ≡ run_cells (run_values r)
+pub run_none : {r : Run} {cause : ℕ} → Err cause ≡ r → 0 ∷ 0 ∷ 0 ∷ 0 ∷ 0 ∷ 0 ∷ [] ≡ run_cells (run_values r)
 unfolding total_of
 run_none e = ap (λ (a : Run). run_cells (run_values a)) e
 
 -- an acceptance those of its values
-pub run-some : {r : Run} {rows probes : ℕ} {area ground : Total} → Done rows probes area ground ≡ r → rows ∷ probes ∷ area.metres ∷ area.rest ∷ ground.metres ∷ ground.rest ∷ [] ≡ run_cells (run_values r)
+pub run-some : {r : Run} {rows probes : ℕ} {area ground : Total} → ran rows probes area ground ≡ r → rows ∷ probes ∷ area.metres ∷ area.rest ∷ ground.metres ∷ ground.rest ∷ [] ≡ run_cells (run_values r)
 run-some e = ap (λ (a : Run). run_cells (run_values a)) e
 
 -- ---- a row's common ground

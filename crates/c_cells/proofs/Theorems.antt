@@ -20,8 +20,8 @@ use Rattle.plan.specs.Causes.{on_cause}
 use Rattle.plan.specs.Plan.{sizes_of, Typed}
 use Rattle.search.specs.Traversal.{Probe}
 use Rattle.paging.specs.declared.Cursor.{Cursor}
-use Rattle.paging.specs.declared.Fresh.{Fresh}
-use Rattle.paging.specs.declared.Page.{Page}
+use Rattle.paging.specs.Answers.{FreshValues}
+use Rattle.paging.specs.Answers.{PageValues}
 use Rattle.paging.specs.declared.Ticket.{Ticket}
 use Rattle.paging.specs.Cursors.{due_cursor, ended_cursor}
 use Rattle.paging.specs.Calls.{fresh_cause, fresh_call, fresh_counter, stop_number, refused_page, page_call}
@@ -90,11 +90,11 @@ pub fresh-back : (s : Shape) (cells : List ℤ) (order counter : List ℕ) → t
 unfolding fresh_call
 fresh-back s cells order counter = go (fresh_cause s cells order counter)
   where
-    go : (n : ℕ) → let f = on_cause {A = Fresh} n (record { number = 0; ticket = record { cursor = due_cursor (sizes_of s) (overlay s cells).walk; count = 0 } }) (λ m. record { number = m; ticket = record { cursor = ended_cursor; count = 0 } }) in ticket_in (ticket_cells f.ticket) ≡ f.ticket
+    go : (n : ℕ) → let f = on_cause {A = FreshValues} n (record { number = 0; ticket = record { cursor = due_cursor (sizes_of s) (overlay s cells).walk; count = 0 } }) (λ m. record { number = m; ticket = record { cursor = ended_cursor; count = 0 } }) in ticket_in (ticket_cells f.ticket) ≡ f.ticket
     go zero = ticket-back _ (due-five (sizes_of s) (overlay s cells).walk)
     go (suc n) = refl
 
-chosen-next : (given : List ℕ) (n : ℕ) (p : Page) → stop_number p.stop ≡ 0 → ticket_in (ticket_cells p.ticket) ≡ p.ticket → let q = on_cause n p (refused_page (ticket_in given)) in ticket_in (ticket_after given q) ≡ q.ticket
+chosen-next : (given : List ℕ) (n : ℕ) (p : PageValues) → stop_number p.stop ≡ 0 → ticket_in (ticket_cells p.ticket) ≡ p.ticket → let q = on_cause n p (refused_page (ticket_in given)) in ticket_in (ticket_after given q) ≡ q.ticket
 chosen-next given zero p e b = ap (λ (m : ℕ). ticket_in (on_cause m (ticket_cells p.ticket) (λ i. given))) e ∙ b
 chosen-next given (suc n) p e b = refl
 

@@ -12,10 +12,10 @@ use Rattle.survey.specs.declared.Strip.TheVariants.{Free, From, To, Between}
 use Rattle.pairs.specs.PairCall.{PairValues}
 use Rattle.windows.specs.HoursCall.{HoursValues}
 use Rattle.paging.specs.declared.Cursor.{Cursor}
-use Rattle.paging.specs.declared.Page.{Page}
+use Rattle.paging.specs.Answers.{PageValues}
 use Rattle.paging.specs.declared.Ticket.{Ticket}
-use Rattle.search.specs.declared.Stop.{Stop}
-use Rattle.search.specs.declared.Stop.TheVariants.{Ended, Full, Spent, Refused}
+use Rattle.search.specs.Stops.{Stop}
+use Rattle.search.specs.Stops.{Ended, Full, Spent, Refused}
 use Rattle.paging.specs.Calls.{stop_number, RunValues}
 
 -- the plan's shape of k, six sizes and six margins
@@ -52,11 +52,11 @@ stop_code Full = 2
 stop_code Spent = 3
 stop_code (Refused cause) = 0
 
-abbrev pub page_cells : Page → List ℕ
+abbrev pub page_cells : PageValues → List ℕ
 page_cells p = stop_code p.stop ∷ p.rows ∷ p.probes ∷ p.area.metres ∷ p.area.rest ∷ []
 
 -- the ticket's cells afterwards: the ticket for what is due next, or after a refusal what they were
-abbrev pub ticket_after : List ℕ → Page → List ℕ
+abbrev pub ticket_after : List ℕ → PageValues → List ℕ
 ticket_after given p = on_cause (stop_number p.stop) (ticket_cells p.ticket) (λ n. given)
 
 -- ---- whole runs: rows, probes, the metres and the rest of the area sum, and those of the ground counted once

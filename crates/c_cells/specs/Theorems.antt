@@ -4,11 +4,11 @@ use mathlib.Core.List.{List, [], ◌∷◌, map, Memᴰ}
 use Rattle.std.proofs.Math.Option.{Option}
 use Rattle.plan.specs.declared.Shape.{Shape}
 use Rattle.plan.specs.Plan.{Typed}
-use Rattle.search.specs.declared.Stop.TheVariants.{Ended, Full, Spent, Refused}
+use Rattle.search.specs.Stops.{Ended, Full, Spent, Refused}
 use Rattle.rows.specs.RowCall.{RowValues, CommonValues}
 use Rattle.pairs.specs.PairCall.{PairValues}
 use Rattle.windows.specs.HoursCall.{HoursValues}
-use Rattle.paging.specs.declared.Page.{Page}
+use Rattle.paging.specs.Answers.{PageValues}
 use Rattle.paging.specs.declared.Ticket.{Ticket}
 use Rattle.paging.specs.Overlays.{overlay_of}
 use Rattle.paging.specs.Calls.{fresh_cause, fresh_call, fresh_counter, RunValues}
@@ -58,7 +58,7 @@ pub record AnswersInCells : Type 0 where
   -- a plan's shape is handed over as k, six sizes and six margins, in this order
   pub shape : (k : ℕ) (sizes margins : List ℕ) → shape_of k sizes margins ≡ record { k = k; sizes = sizes; margins = margins }
   -- 02, Q-13: "kept as whole square metres and a rest": a page is why it stopped, rows, probes, metres and rest
-  pub page : (p : Page) → page_cells p ≡ stop_code p.stop ∷ p.rows ∷ p.probes ∷ p.area.metres ∷ p.area.rest ∷ []
+  pub page : (p : PageValues) → page_cells p ≡ stop_code p.stop ∷ p.rows ∷ p.probes ∷ p.area.metres ∷ p.area.rest ∷ []
   -- why it stopped, and 0 after a refusal
   pub stops : (stop_code Ended ≡ 1) × (stop_code Full ≡ 2) × (stop_code Spent ≡ 3) × ((cause : ℕ) → stop_code (Refused cause) ≡ 0)
   -- a whole run: rows, probes, the area sum, and ground counted once

@@ -3,99 +3,64 @@
 
 ghost use Rattle.std.specs.Prelude.{◌≡◌, [], ◌∷◌, ◌+◌, ◌*◌, pos};
 ghost use Rattle.geometry.specs.Rectangles.{letter_of};
-ghost use Rattle.sweep.specs.Sweep.{order_number};
+ghost use Rattle.plan.specs.Causes.{refusal, by_number};
 ghost use Rattle.rows.specs.RowCall.{row_values, common_values};
 ghost use Rattle.pairs.specs.PairCall.{pair_values};
 ghost use Rattle.windows.specs.HoursCall.{hours_values};
+ghost use Rattle.paging.specs.Answers.{fresh_told, stop_told, page_told};
 ghost use Rattle.paging.specs.Calls.{stop_number, run_values};
-ghost use Rattle.text.specs.Writer.{number_said, length_of};
-ghost use Rattle.survey.specs.CoverCall.{cover_values};
+ghost use Rattle.text.specs.Writer.{length_of};
 ghost use Rattle.c_cells.specs.Cells.{ticket_cells, cursor_in, ticket_in, stop_code, page_cells, ticket_after};
 ghost use Rattle.c_cells.specs.Cells.{run_cells, row_cells, common_cells, strip_in, pair_cells, hours_cells};
 
 use geometry::{Kind, Rect};
 use geometry_code::letter;
-use paging::{Cursor, Page, Run, Ticket};
-use pairs::PairAnswer;
-use plan::MOST_SLOTS;
-use rows::{CommonAnswer, RowAnswer};
-use search::Stop;
-use survey::{Covering, Strip};
-use sweep::OrderAnswer;
-use text::Writing;
-use windows::HoursAnswer;
+use paging::{Cursor, Done, Page, Stop, Ticket};
+use pairs::Pair;
+use plan::{Cause, MOST_SLOTS};
+use rows::{CommonGround, Row};
+use survey::Strip;
+use windows::Window;
 
-// The number of a writer's answer.
-pub fn written_number(writing: Writing) -> u32
-    ensures { result ≡ number_said writing }
-{
-    match writing {
-        Writing::Written(_) => 0,
-        Writing::Refused(cause) => cause,
-    }
-}
-
-// The length in a writer's answer, 0 for a refusal.
-pub fn written_length(writing: Writing) -> usize
-    ensures { result ≡ length_of writing }
-{
-    match writing {
-        Writing::Written(length) => length,
-        Writing::Refused(_) => 0,
-    }
-}
-
-// The number of an order maker's answer.
-pub fn order_number(answer: OrderAnswer) -> u32
-    ensures { result ≡ order_number answer }
+// The number of an answer's refusal, 0 for none.
+pub fn number_of<T>(answer: &Result<T, Cause>) -> u32
+    ensures { result ≡ refusal answer.now }
 {
     match answer {
-        OrderAnswer::Made => 0,
-        OrderAnswer::Refused(cause) => cause,
+        Ok(_) => 0,
+        Err(cause) => u32::from(*cause),
     }
 }
 
-// The number of a row call's answer.
-pub fn row_number(answer: RowAnswer) -> u32
-    ensures { result ≡ (row_values answer).number }
+// The size that an answer tells, 0 for a refusal.
+pub fn size_in(answer: Result<usize, Cause>) -> usize
+    ensures { result ≡ length_of (by_number answer) }
 {
     match answer {
-        RowAnswer::Refused(cause) => cause,
-        RowAnswer::NoRow => 0,
-        RowAnswer::Row(_, _) => 0,
+        Ok(size) => size,
+        Err(_) => 0,
     }
 }
 
 // The cells of a row call's answer.
-pub fn row_cells(answer: RowAnswer) -> [u64; 2]
-    ensures { result ≡ row_cells (row_values answer) }
+pub fn row_cells(answer: Result<Option<Row>, Cause>) -> [u64; 2]
+    ensures { result ≡ row_cells (row_values (by_number answer)) }
 {
     match answer {
-        RowAnswer::Refused(_) => [0, 0],
-        RowAnswer::NoRow => [0, 0],
-        RowAnswer::Row(layer, area) => [layer as u64, area],
-    }
-}
-
-// The number of the answer on a row's common ground.
-pub fn common_number(answer: CommonAnswer) -> u32
-    ensures { result ≡ (common_values answer).number }
-{
-    match answer {
-        CommonAnswer::Refused(cause) => cause,
-        CommonAnswer::NoRow => 0,
-        CommonAnswer::Common(_, _) => 0,
+        Err(_) => [0, 0],
+        Ok(None) => [0, 0],
+        Ok(Some(row)) => [row.layer as u64, row.area],
     }
 }
 
 // The cells of the answer on a row's common ground.
-pub fn common_cells(answer: CommonAnswer) -> [i32; 5]
-    ensures { result ≡ common_cells (common_values answer) }
+pub fn common_cells(answer: Result<Option<CommonGround>, Cause>) -> [i32; 5]
+    ensures { result ≡ common_cells (common_values (by_number answer)) }
 {
     match answer {
-        CommonAnswer::Refused(_) => [0, 0, 0, 0, 0],
-        CommonAnswer::NoRow => [0, 0, 0, 0, 0],
-        CommonAnswer::Common(r, kind) => ground_cells(r, kind),
+        Err(_) => [0, 0, 0, 0, 0],
+        Ok(None) => [0, 0, 0, 0, 0],
+        Ok(Some(ground)) => ground_cells(ground.rect, ground.kind),
     }
 }
 
@@ -107,47 +72,25 @@ fn ground_cells(r: Rect, kind: Kind) -> [i32; 5]
     [r.left, r.bottom, r.right, r.top, byte as i32]
 }
 
-// The number of a pair call's answer.
-pub fn pair_number(answer: PairAnswer) -> u32
-    ensures { result ≡ (pair_values answer).number }
-{
-    match answer {
-        PairAnswer::Refused(cause) => cause,
-        PairAnswer::Share => 0,
-        PairAnswer::Pair(_, _) => 0,
-    }
-}
-
 // The cells of a pair call's answer.
-pub fn pair_cells(answer: PairAnswer) -> [u64; 2]
-    ensures { result ≡ pair_cells (pair_values answer) }
+pub fn pair_cells(answer: Result<Option<Pair>, Cause>) -> [u64; 2]
+    ensures { result ≡ pair_cells (pair_values (by_number answer)) }
 {
     match answer {
-        PairAnswer::Refused(_) => [0, 0],
-        PairAnswer::Share => [0, 0],
-        PairAnswer::Pair(lower, higher) => [lower as u64, higher as u64],
+        Err(_) => [0, 0],
+        Ok(None) => [0, 0],
+        Ok(Some(pair)) => [pair.lower as u64, pair.higher as u64],
     }
 }
 
-// The number of the answer of the call for a row's shared minutes.
-pub fn hours_number(answer: HoursAnswer) -> u32
-    ensures { result ≡ (hours_values answer).number }
+// The cells of the answer of the call for a row's shared minutes.
+pub fn hours_cells(answer: Result<Option<Window>, Cause>) -> [u32; 2]
+    ensures { result ≡ hours_cells (hours_values (by_number answer)) }
 {
     match answer {
-        HoursAnswer::Refused(cause) => cause,
-        HoursAnswer::NoRow => 0,
-        HoursAnswer::Shared(_, _) => 0,
-    }
-}
-
-// The cells of that answer.
-pub fn hours_cells(answer: HoursAnswer) -> [u32; 2]
-    ensures { result ≡ hours_cells (hours_values answer) }
-{
-    match answer {
-        HoursAnswer::Refused(_) => [0, 0],
-        HoursAnswer::NoRow => [0, 0],
-        HoursAnswer::Shared(from, to) => [from, to],
+        Err(_) => [0, 0],
+        Ok(None) => [0, 0],
+        Ok(Some(shared)) => [shared.from, shared.to],
     }
 }
 
@@ -219,21 +162,31 @@ fn cursor_in(cells: &[u32; 12]) -> Cursor
     }
 }
 
+// The cells of a fresh-ticket call's answer: a refusal says Ended.
+pub fn fresh_cells(answer: Result<Ticket, Cause>) -> [u32; 12]
+    ensures { result ≡ ticket_cells (fresh_told answer).ticket }
+{
+    match answer {
+        Ok(ticket) => ticket_cells(ticket),
+        Err(_) => [1, 0, 0, 0, 0, 0, 0, 0, 0, 0, 0, 0],
+    }
+}
+
 // The number of a stop, 0 where the page is accepted.
 pub fn stop_number(stop: Stop) -> u32
-    ensures { result ≡ stop_number stop }
+    ensures { result ≡ stop_number (stop_told stop) }
 {
     match stop {
         Stop::Ended => 0,
         Stop::Full => 0,
         Stop::Spent => 0,
-        Stop::Refused(cause) => cause,
+        Stop::Refused(cause) => u32::from(cause),
     }
 }
 
 // Why a page stopped, as a cell.
 pub fn stop_code(stop: Stop) -> u64
-    ensures { result ≡ stop_code stop }
+    ensures { result ≡ stop_code (stop_told stop) }
 {
     match stop {
         Stop::Ended => 1,
@@ -245,7 +198,7 @@ pub fn stop_code(stop: Stop) -> u64
 
 // The cells of a page.
 pub fn page_cells(page: Page) -> [u64; 5]
-    ensures { result ≡ page_cells page }
+    ensures { result ≡ page_cells (page_told page) }
 {
     let stop = page.stop;
     let area = page.area;
@@ -260,7 +213,7 @@ pub fn page_cells(page: Page) -> [u64; 5]
 
 // The ticket's cells after a page: what is due next, or as given after a refusal.
 pub fn ticket_after(given: &[u32; 12], page: Page) -> [u32; 12]
-    ensures { result ≡ ticket_after given.now page }
+    ensures { result ≡ ticket_after given.now (page_told page) }
 {
     let stop = page.stop;
     if stop_number(stop) != 0 {
@@ -270,26 +223,18 @@ pub fn ticket_after(given: &[u32; 12], page: Page) -> [u32; 12]
     ticket_cells(due)
 }
 
-// The number of a whole run's answer.
-pub fn run_number(run: Run) -> u32
-    ensures { result ≡ (run_values run).number }
-{
-    match run {
-        Run::Refused(cause) => cause,
-        Run::Done(_, _, _, _) => 0,
-    }
-}
-
 // The cells of a whole run's answer.
-pub fn run_cells(run: Run) -> [u64; 6]
-    ensures { result ≡ run_cells (run_values run) }
+pub fn run_cells(answer: Result<Done, Cause>) -> [u64; 6]
+    ensures { result ≡ run_cells (run_values (by_number answer)) }
 {
-    match run {
-        Run::Refused(_) => [0, 0, 0, 0, 0, 0],
-        Run::Done(rows, probes, area, ground) => {
+    match answer {
+        Err(_) => [0, 0, 0, 0, 0, 0],
+        Ok(done) => {
+            let area = done.area;
+            let ground = done.ground;
             [
-                rows as u64,
-                probes,
+                done.rows as u64,
+                done.probes,
                 area.metres,
                 area.rest,
                 ground.metres,
@@ -309,25 +254,5 @@ pub fn strip_in(kind: u32, lower: f64, upper: f64) -> Strip
         2 => Strip::To(upper),
         3 => Strip::Between(lower, upper),
         _ => Strip::Between(1.0, 0.0),
-    }
-}
-
-// The number of a covering's answer.
-pub fn covering_number(answer: Covering) -> u32
-    ensures { result ≡ (cover_values answer).number }
-{
-    match answer {
-        Covering::Kept(_) => 0,
-        Covering::Refused(cause) => cause,
-    }
-}
-
-// How many records a covering kept, 0 for a refusal.
-pub fn covering_kept(answer: Covering) -> usize
-    ensures { result ≡ (cover_values answer).kept }
-{
-    match answer {
-        Covering::Kept(n) => n,
-        Covering::Refused(_) => 0,
     }
 }

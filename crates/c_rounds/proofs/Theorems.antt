@@ -16,7 +16,7 @@ use Rattle.lists.proofs.Lists.{all_map, all_any, all-parts, all_get_d}
 use Rattle.lists.proofs.Kept.{get_d-upto, all_keep, keep-map, map-map}
 use Rattle.plan.specs.declared.Shape.{Shape}
 use Rattle.plan.specs.Plan.{Typed}
-use Rattle.paging.specs.declared.Page.{Page}
+use Rattle.paging.specs.Answers.{PageValues}
 use Rattle.paging.specs.declared.Ticket.{Ticket}
 use Rattle.paging.specs.Cursors.{ended_cursor}
 use Rattle.paging.specs.Calls.{stop_number, fresh_cause, fresh_call, fresh_counter}
@@ -74,7 +74,7 @@ module _ (q : Request) (given : List ℕ) (typed : Typed q.shape) (long : length
           let c = (rounds-hold.accepted q typed e).clients t a b in
           let n : stop_number (answer (call_of q t)).stop ≡ 0 = page_number (call_of q t) ∙ c.accepted in
           let back : ticket_in (ticket_after (twelve_of given t) (answer (call_of q t))) ≡ (answer (call_of q t)).ticket = next-is (call_of q t) (twelve_of given t) (ticket-from t a (omega arith)) in
-          let z : twelve_after t ≡ ticket_cells (answer (call_of q t)).ticket = rw (le-leb t q.clients b) (ap (λ (p : Page). ticket_cells p.ticket) c.page) in
+          let z : twelve_after t ≡ ticket_cells (answer (call_of q t)).ticket = rw (le-leb t q.clients b) (ap (λ (p : PageValues). ticket_cells p.ticket) c.page) in
           ap ticket_in (after-part e t a (omega arith) ∙ z) ∙ (rw n at back)
 
 -- ---- lists

@@ -1,23 +1,21 @@
 // A round's tickets read from cells, and its tickets and pages put into them. The layout is defined in the crate `c_rounds`.
 #![tactic(auto)]
 
-ghost use Rattle.std.specs.Prelude.{◌≡◌, cond, ◌+◌, ◌*◌, ◌≤◌, ◌<◌, ltb, length, take, drop};
-ghost use Rattle.lists.specs.inner.Stores.{Put};
+ghost use Rattle.std.specs.Prelude.{◌≡◌, cond, ◌+◌, ◌*◌, ◌≤◌, ◌<◌, ltb, length, map, take, drop};
+ghost use Rattle.paging.specs.Answers.{page_told};
 ghost use Rattle.c_cells.specs.Cells.{ticket_cells, ticket_in};
 ghost use Rattle.c_rounds.specs.RoundCells.{tickets_in, round_cells, tickets_after};
 
 use c_codec::{page_cells, ticket_cells, ticket_in};
 use paging::{Page, Ticket};
 
-// The tickets in cells.
+// The tickets in cells. A `for`: `array::from_fn` is accepted, but what it returns does not prove.
 pub fn tickets_in(cells: &[u32; 192]) -> [Ticket; 16]
     ensures { result ≡ tickets_in cells.now }
 {
     let mut tickets = [ticket_at(cells, 0); 16];
-    let mut i: usize = 0;
-    while i < 16 {
-        tickets[i] = ticket_at(cells, i);
-        i += 1;
+    for (i, ticket) in tickets.iter_mut().enumerate() {
+        *ticket = ticket_at(cells, i);
     }
     tickets
 }
@@ -37,52 +35,35 @@ fn twelve_at(cells: &[u32], i: usize) -> [u32; 12]
     ensures { result ≡ take 12 (drop (i * 12) cells.now) }
 {
     let at = i * 12;
-    [
-        cells[at],
-        cells[at + 1],
-        cells[at + 2],
-        cells[at + 3],
-        cells[at + 4],
-        cells[at + 5],
-        cells[at + 6],
-        cells[at + 7],
-        cells[at + 8],
-        cells[at + 9],
-        cells[at + 10],
-        cells[at + 11],
-    ]
+    let mut twelve = [0u32; 12];
+    twelve.copy_from_slice(&cells[at..at + 12]);
+    twelve
 }
 
 // The cells of the pages.
 pub fn round_cells(pages: [Page; 16]) -> [u64; 80]
-    ensures { result ≡ round_cells pages }
+    ensures { result ≡ round_cells (map page_told pages) }
 {
     let mut cells = [0u64; 80];
-    let mut i: usize = 0;
-    while i < 16 {
-        let page = pages[i];
-        let five = page_cells(page);
-        put_page(&mut cells, i * 5, &five);
-        i += 1;
+    for (i, page) in pages.iter().enumerate() {
+        let at = i * 5;
+        cells[at..at + 5].copy_from_slice(&page_cells(*page));
     }
     cells
 }
 
 // The tickets' cells after a round of m clients that told this number: what is due next to each that was served; as given past m, and after a refusal.
 pub fn tickets_after(given: &[u32; 192], m: u32, number: u32, pages: [Page; 16]) -> [u32; 192]
-    ensures { result ≡ tickets_after given.now m number pages }
+    ensures { result ≡ tickets_after given.now m number (map page_told pages) }
 {
     if number != 0 {
         return *given;
     }
     let mut cells = [0u32; 192];
-    let mut i: usize = 0;
-    while i < 16 {
-        let page = pages[i];
+    for (i, page) in pages.iter().enumerate() {
+        let at = i * 12;
         let due = page.ticket;
-        let twelve = twelve_after(given, m, i, due);
-        put_ticket(&mut cells, i * 12, &twelve);
-        i += 1;
+        cells[at..at + 12].copy_from_slice(&twelve_after(given, m, i, due));
     }
     cells
 }
@@ -96,28 +77,4 @@ fn twelve_after(given: &[u32], m: u32, i: usize, due: Ticket) -> [u32; 12]
         return ticket_cells(due);
     }
     twelve_at(given, i)
-}
-
-// The cells of a page from a place on.
-fn put_page(cells: &mut [u64], at: usize, page: &[u64])
-    requires { at + length page.now ≤ length cells.old }
-    ensures { Put cells.old at page.now cells.new (at + length page.now) }
-{
-    let mut j: usize = 0;
-    while j < page.len() {
-        cells[at + j] = page[j];
-        j += 1;
-    }
-}
-
-// The cells of a ticket from a place on.
-fn put_ticket(cells: &mut [u32], at: usize, ticket: &[u32])
-    requires { at + length ticket.now ≤ length cells.old }
-    ensures { Put cells.old at ticket.now cells.new (at + length ticket.now) }
-{
-    let mut j: usize = 0;
-    while j < ticket.len() {
-        cells[at + j] = ticket[j];
-        j += 1;
-    }
 }

@@ -5,7 +5,7 @@
 ghost use Rattle.std.specs.Prelude.{◌≡◌, length};
 ghost use Rattle.std.proofs.Math.Option.{none, some};
 ghost use Rattle.plan.specs.Plan.{rect_at, plan_cause};
-ghost use Rattle.nearest.specs.Nearest.{nearest_call, near_cells};
+ghost use Rattle.nearest.specs.Nearest.{nearest_call, nearest_values, near_cells};
 ghost use Rattle.sweep.specs.Sweep.{order_cause, make_cause, order_after};
 ghost use Rattle.rows.specs.RowCall.{row_call, row_values, common_call, common_values};
 ghost use Rattle.pairs.specs.PairCall.{pair_call, pair_values};
@@ -16,31 +16,29 @@ ghost use Rattle.crossing_report.specs.CrossingCall.{crossing_run_cause, crossin
 ghost use Rattle.rounds.specs.Rounds.{Request, round_cause, round_call, round_counters, round_table};
 ghost use Rattle.c_rounds.specs.RoundCells.{tickets_in, round_cells, tickets_after};
 ghost use Rattle.survey.specs.CoverCall.{cover_cause, cover_answer, cover_values, cover_after};
-ghost use Rattle.text.specs.Reader.{read_cause, read_answer, cells_after};
+ghost use Rattle.text.specs.Reader.{read_cause, read_answer, read_values, cells_after};
 ghost use Rattle.text.specs.Writer.{write_cause, write_answer, length_of, buffer_after};
 ghost use Rattle.c_cells.specs.Cells.{shape_of, ticket_cells, ticket_in, page_cells, ticket_after, run_cells};
 ghost use Rattle.c_cells.specs.Cells.{row_cells, common_cells, across_in, upward_in, pair_cells, hours_cells};
 
 use c_codec::{
-    common_cells, common_number, covering_kept, covering_number, hours_cells, hours_number,
-    order_number, page_cells, pair_cells, pair_number, row_cells, row_number, run_cells,
-    run_number, stop_number, strip_in, ticket_after, ticket_cells, ticket_in, written_length,
-    written_number,
+    common_cells, fresh_cells, hours_cells, number_of, page_cells, pair_cells, row_cells,
+    run_cells, size_in, stop_number, strip_in, ticket_after, ticket_in,
 };
 use c_rounds_codec::{round_cells, tickets_after, tickets_in};
 use crossing_report_code::crossing_report;
-use crossings_code::{class_cell, class_number, class_of};
+use crossings_code::{class_cell, class_of};
 use nearest_code::{near_cells, nearest};
 use pager::{fetch_page, fresh_ticket, timed_page};
 use pairs_code::apart_pair;
 use plan::Shape;
-use plan_code::{plan_cause, rect_at};
+use plan_code::{check_plan, rect_at};
 use reader::read;
 use rounds_code::round;
 use rows_code::{row, row_common};
 use runner::{run_all, timed_run};
 use survey_code::cover_records;
-use sweep_code::{make_order, order_cause};
+use sweep_code::{check_order, make_order};
 use windows_code::row_hours;
 use writer::write;
 
@@ -73,14 +71,14 @@ pub extern "C" fn overlay_plan_cause(
 {
     let six = *sizes;
     let wide = *margins;
-    plan_cause(
+    number_of(&check_plan(
         Shape {
             k,
             sizes: six,
             margins: wide,
         },
         cells,
-    )
+    ))
 }
 
 // Makes the sweep order of a plan.
@@ -97,7 +95,7 @@ pub extern "C" fn overlay_make_order(
 {
     let six = *sizes;
     let wide = *margins;
-    order_number(make_order(
+    number_of(&make_order(
         Shape {
             k,
             sizes: six,
@@ -121,7 +119,7 @@ pub extern "C" fn overlay_order_cause(
 {
     let six = *sizes;
     let wide = *margins;
-    order_cause(
+    number_of(&check_order(
         Shape {
             k,
             sizes: six,
@@ -129,7 +127,7 @@ pub extern "C" fn overlay_order_cause(
         },
         cells,
         order,
-    )
+    ))
 }
 
 // What the lent places name in the table of a plan. The answer's cells: the guard's layer, the area.
@@ -157,7 +155,7 @@ pub extern "C" fn overlay_row(
         places,
     );
     *answer = row_cells(told);
-    row_number(told)
+    number_of(&told)
 }
 
 // The common ground of the row that the lent places name in the table of a plan. The answer's cells: left, bottom, right, top, and its kind, the letter G, E
@@ -186,7 +184,7 @@ pub extern "C" fn overlay_row_common(
         places,
     );
     *answer = common_cells(told);
-    common_number(told)
+    number_of(&told)
 }
 
 // What lies nearest to a box (left, bottom, right, top) in each layer. The answer's cells, three for each of six layers: found or not, place, squared gap.
@@ -199,7 +197,7 @@ pub extern "C" fn overlay_nearest(
     around: &[i32; 4],
     answer: &mut [u64; 18],
 ) -> u32
-    ensures { let v = nearest_call (shape_of k sizes.now margins.now) cells.now (rect_at around.now 0) in
+    ensures { let v = nearest_values (nearest_call (shape_of k sizes.now margins.now) cells.now (rect_at around.now 0)) in
         (result ≡ v.number) × (answer.new ≡ near_cells v) }
 {
     let six = *sizes;
@@ -214,7 +212,7 @@ pub extern "C" fn overlay_nearest(
         rect_at(around, 0),
     );
     *answer = near_cells(told);
-    told.number
+    number_of(&told)
 }
 
 // Whether the rectangles at the lent places share a point, or the first pair of layers whose two do not meet. The answer's cells: the lower layer, the
@@ -243,7 +241,7 @@ pub extern "C" fn overlay_apart_pair(
         places,
     );
     *answer = pair_cells(told);
-    pair_number(told)
+    number_of(&told)
 }
 
 // The minutes that the windows of the row share which the lent places name in the table of a plan. The answer's cells: the first of them, and the first
@@ -275,7 +273,7 @@ pub extern "C" fn overlay_row_hours(
         places,
     );
     *answer = hours_cells(told);
-    hours_number(told)
+    number_of(&told)
 }
 
 // The ticket of the first probe of a plan's walk. A run begins: its counter, the run record, is left with 0.
@@ -306,9 +304,8 @@ pub extern "C" fn overlay_fresh_ticket(
         order,
         counter,
     );
-    let first = fresh.ticket;
-    *ticket = ticket_cells(first);
-    fresh.number
+    *ticket = fresh_cells(fresh);
+    number_of(&fresh)
 }
 
 // A page of the walk from a ticket on; the ticket's cells are left with what is due next, and the counter, the run record, with its count. The answer's cells:
@@ -456,9 +453,10 @@ pub extern "C" fn overlay_round(
     );
     let pages = told.pages;
     *answer = round_cells(pages);
-    *tickets = tickets_after(tickets, m, told.number, pages);
+    let number = number_of(&told.checks);
+    *tickets = tickets_after(tickets, m, number, pages);
     *next = told.next;
-    told.number
+    number
 }
 
 // All rows of a plan's table. The answer's cells: rows, probes, metres and rest of the area sum, and of the ground counted once.
@@ -493,7 +491,7 @@ pub extern "C" fn overlay_run_all(
         work,
     );
     *answer = run_cells(run);
-    run_number(run)
+    number_of(&run)
 }
 
 // All rows of a plan's timed table, with a window of the week for each rectangle, two cells, in `hours`; else as the whole run.
@@ -530,7 +528,7 @@ pub extern "C" fn overlay_timed_run(
         work,
     );
     *answer = run_cells(run);
-    run_number(run)
+    number_of(&run)
 }
 
 // The class of the row that the lent places name in the table of a plan, left in `told`: 17 where they name none. After a
@@ -559,7 +557,7 @@ pub extern "C" fn overlay_row_class(
         places,
     );
     *told = class_cell(class);
-    class_number(class)
+    number_of(&class)
 }
 
 // All rows of a plan's table, and how many fall in each class, 0 to 16. The answer's cells are those of a whole run.
@@ -584,22 +582,24 @@ pub extern "C" fn overlay_crossing_report(
 {
     let six = *sizes;
     let wide = *margins;
-    let report = crossing_report(
-        Shape {
-            k,
-            sizes: six,
-            margins: wide,
-        },
-        cells,
-        order,
-        table,
-        work,
-    );
-    let run = report.run;
-    let seventeen = report.counts;
-    *answer = run_cells(run);
-    *counts = seventeen;
-    run_number(run)
+    let shape = Shape {
+        k,
+        sizes: six,
+        margins: wide,
+    };
+    match crossing_report(shape, cells, order, table, work) {
+        Ok(report) => {
+            let seventeen = report.counts;
+            *answer = run_cells(Ok(report.run));
+            *counts = seventeen;
+            0
+        }
+        Err(cause) => {
+            *answer = run_cells(Err(cause));
+            *counts = [0; 17];
+            u32::from(cause)
+        }
+    }
 }
 
 // Reads a plan text into lent cells; k, the sizes and the margins are left in theirs.
@@ -611,18 +611,26 @@ pub extern "C" fn overlay_read_text(
     sizes: &mut [u32; 6],
     margins: &mut [u32; 6],
 ) -> u32
-    ensures { let lines = text.now in let room = length cells.old in let s = (read_answer room lines).shape in
+    ensures { let lines = text.now in let room = length cells.old in let s = (read_values (read_answer room lines)).shape in
         (result ≡ read_cause room lines) × (k.new ≡ s.k) × (sizes.new ≡ s.sizes) × (margins.new ≡ s.margins)
         × (cells.new ≡ cells_after lines cells.old) }
 {
-    let reading = read(text, cells);
-    let shape = reading.shape;
-    let six = shape.sizes;
-    let wide = shape.margins;
-    *k = shape.k;
-    *sizes = six;
-    *margins = wide;
-    reading.number
+    match read(text, cells) {
+        Ok(shape) => {
+            let six = shape.sizes;
+            let wide = shape.margins;
+            *k = shape.k;
+            *sizes = six;
+            *margins = wide;
+            0
+        }
+        Err(cause) => {
+            *k = 0;
+            *sizes = [0; 6];
+            *margins = [0; 6];
+            u32::from(cause)
+        }
+    }
 }
 
 // Writes the text of a plan at the start of a lent buffer; its length is left in `size`.
@@ -650,8 +658,8 @@ pub extern "C" fn overlay_write_text(
         cells,
         text,
     );
-    *size = written_length(writing);
-    written_number(writing)
+    *size = size_in(writing);
+    number_of(&writing)
 }
 
 // Puts the covers of the kept records into the first cells; how many there are is left in `kept`. Kinds (0 free, 1 lower stop, 2 upper stop, 3 both) and
@@ -675,6 +683,6 @@ pub extern "C" fn overlay_cover_records(
     let across = strip_in(two[0], four[0], four[1]);
     let upward = strip_in(two[1], four[2], four[3]);
     let answer = cover_records(across, upward, corners, cells);
-    *kept = covering_kept(answer);
-    covering_number(answer)
+    *kept = size_in(answer);
+    number_of(&answer)
 }

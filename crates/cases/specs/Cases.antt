@@ -1,6 +1,6 @@
 -- Theorem: the cases of 01's "Ground to check" that are marked (P), those of its "The report", and a few of our own, as one list, and what it means that a
 -- case holds of the definitions.
-use Rattle.std.specs.Prelude.{◌≡◌, false, List, [], ◌∷◌, ◌++◌, map, ℕ, suc, ◌*◌, ℤ, pos, neg_ℤ, length, replicate}
+use Rattle.std.specs.Prelude.{◌≡◌, false, List, [], ◌∷◌, ◌++◌, map, ℕ, suc, ◌*◌, ℤ, pos, neg_ℤ, length, replicate, Option, Some, None, Result, Ok, Err}
 use Rattle.std.proofs.Math.Option.{none, some}
 use Prim.Native.Char.{code}
 use Prim.Native.String.{String}
@@ -10,29 +10,23 @@ use Rattle.geometry.specs.declared.Rect.{Rect}
 use Rattle.geometry.specs.declared.Kind.TheVariants.{Ground, Edge, Point}
 use Rattle.plan.specs.declared.Shape.{Shape}
 use Rattle.plan.specs.Plan.{sizes_of, layers, plan_cause, grown}
-use Rattle.sweep.specs.declared.OrderAnswer.{OrderAnswer}
-use Rattle.sweep.specs.declared.OrderAnswer.TheVariants as Order
 use Rattle.sweep.specs.Sweep.{sweep_order, order_answer, order_number}
 use Rattle.join.specs.Table.{plan_table}
-use Rattle.rows.specs.declared.RowAnswer.{RowAnswer}
-use Rattle.rows.specs.declared.RowAnswer.TheVariants as Row
-use Rattle.rows.specs.declared.CommonAnswer.{CommonAnswer}
-use Rattle.rows.specs.declared.CommonAnswer.TheVariants as Common
+use Rattle.rows.specs.declared.Row.{Row}
+use Rattle.rows.specs.declared.CommonGround.{CommonGround}
 use Rattle.rows.specs.RowCall.{row_call, row_values, common_call, common_values}
 use Rattle.walk.specs.Walk.{walk_of}
-use Rattle.windows.specs.declared.HoursAnswer.{HoursAnswer}
-use Rattle.windows.specs.declared.HoursAnswer.TheVariants as Hours
+use Rattle.windows.specs.declared.Window.{Window}
 use Rattle.windows.specs.HoursCall.{hours_cause, hours_call, hours_values}
 use Rattle.timed.specs.Timed.{timed_walk_of, timed_table_of}
 use Rattle.paging.specs.declared.Cursor.{Cursor}
 use Rattle.paging.specs.declared.Ticket.{Ticket}
-use Rattle.search.specs.declared.Stop.{Stop}
-use Rattle.search.specs.declared.Stop.TheVariants.{Ended, Full, Spent}
+use Rattle.search.specs.Stops.{Stop}
+use Rattle.search.specs.Stops.{Ended, Full, Spent}
 use Rattle.paging.specs.Cursors.{ended_cursor}
 use Rattle.paging.specs.Calls.{fresh_call, fresh_counter, page_cause, page_call, page_table, page_counter}
-use Rattle.text.specs.declared.Reading.{Reading}
 use Rattle.text.specs.Plans.{text_of}
-use Rattle.text.specs.Reader.{read_answer, cells_after}
+use Rattle.text.specs.Reader.{read_answer, ReadValues, read_values, cells_after}
 use Rattle.printing.specs.Lines.{row_line, hundredths, square_metres, refused_line}
 use Rattle.reporting.specs.Report.{report_of}
 
@@ -71,7 +65,7 @@ pub data Case : Type 0 where
   -- the cursor of a plan's fresh ticket
   Fresh : Shape → List ℤ → Cursor → Case
   -- a text, lent cells, what the reader must answer, and the cells afterwards
-  Read : List ℕ → List ℤ → Reading → List ℤ → Case
+  Read : List ℕ → List ℤ → ReadValues → List ℤ → Case
   -- page calls, one after the other, from the fresh ticket on
   Paged : Shape → List ℤ → List Turn → Case
   -- a ticket and a counter, and the cause of a page call that brings them, or 0
@@ -79,7 +73,7 @@ pub data Case : Type 0 where
   -- the windows of a plan, and the cause of plan and windows, or 0
   Windowed : Shape → List ℤ → (hours : List ℕ) → ℕ → Case
   -- ... the cells of a row, what the call for its shared minutes answers, and the answer's number, first shared minute and first after them
-  Asked : Shape → List ℤ → (hours row : List ℕ) → HoursAnswer → (number from to : ℕ) → Case
+  Asked : Shape → List ℤ → (hours row : List ℕ) → Result (Option Window) ℕ → (number from to : ℕ) → Case
   -- ... the rows of the timed table, each with the first minute that its windows share and the first after them, and the timed walk's length
   Timed : Shape → List ℤ → (hours : List ℕ) → List Shared → ℕ → Case
   -- an area sum, the whole square metres and the rest that it is kept as, and the square metres that are printed for it
@@ -93,11 +87,11 @@ pub data Case : Type 0 where
   -- a sound plan, and its text
   Written : Shape → List ℤ → List ℕ → Case
   -- what the order maker answers where no check refuses, and where one does; their numbers are 0 and the cause
-  Ordered : OrderAnswer → (ℕ → OrderAnswer) → Case
+  Ordered : Result (Unit {0}) ℕ → (ℕ → Result (Unit {0}) ℕ) → Case
   -- the cells of a row, what the row call answers, and the answer's number, guard's layer and area
-  Measured : Shape → List ℤ → (row : List ℕ) → RowAnswer → (number layer area : ℕ) → Case
+  Measured : Shape → List ℤ → (row : List ℕ) → Result (Option Row) ℕ → (number layer area : ℕ) → Case
   -- ... what the call for its common ground answers, and the answer's number, letter and rectangle
-  Grounded : Shape → List ℤ → (row : List ℕ) → CommonAnswer → (number kind : ℕ) → Rect → Case
+  Grounded : Shape → List ℤ → (row : List ℕ) → Result (Option CommonGround) ℕ → (number kind : ℕ) → Rect → Case
 
 -- what the row call and the call for its common ground tell of a row
 abbrev pub told_row : Shape → List ℤ → List ℕ → Told
@@ -133,7 +127,7 @@ Holds (Listed s cells rows probes) =
 Holds (Fresh s cells c) =
     let order = sweep_order (grown s cells) in
     (fresh_call s cells order (7 ∷ []) ≡ record { number = 0; ticket = counting c 0 }) × (fresh_counter s cells order (7 ∷ []) ≡ 0 ∷ [])
-Holds (Read t cells r after) = (read_answer (length cells) t ≡ r) × (cells_after t cells ≡ after)
+Holds (Read t cells r after) = (read_values (read_answer (length cells) t) ≡ r) × (cells_after t cells ≡ after)
 Holds (Paged s cells ts) =
     let order = sweep_order (grown s cells) in
     Turns s cells (fresh_call s cells order (7 ∷ [])).ticket (fresh_counter s cells order (7 ∷ [])) ts
@@ -491,12 +485,12 @@ cases =
     ∷ Timed (shape 3 1 1 1) corner (0 ∷ 30 ∷ 10 ∷ 20 ∷ 5 ∷ 10080 ∷ []) (shared (0 ∷ 0 ∷ 0 ∷ []) 10 20 ∷ []) 5
     ∷ Timed (shape 3 1 1 1) corner (0 ∷ 10 ∷ 10 ∷ 20 ∷ 5 ∷ 10080 ∷ []) [] 4
     -- "for other cells 0 and 0": a row of D whose windows only touch, places that name no row, and cells that are no places of D
-    ∷ Asked d d_cells (0 ∷ 100 ∷ 100 ∷ 10080 ∷ 50 ∷ 100 ∷ []) (1 ∷ 0 ∷ []) Hours.NoRow 0 0 0
-    ∷ Asked d d_cells (0 ∷ 100 ∷ 100 ∷ 10080 ∷ 50 ∷ 100 ∷ []) (2 ∷ 0 ∷ []) Hours.NoRow 0 0 0
-    ∷ Asked d d_cells (0 ∷ 100 ∷ 100 ∷ 10080 ∷ 50 ∷ 100 ∷ []) (0 ∷ []) Hours.NoRow 0 0 0
+    ∷ Asked d d_cells (0 ∷ 100 ∷ 100 ∷ 10080 ∷ 50 ∷ 100 ∷ []) (1 ∷ 0 ∷ []) (Ok None) 0 0 0
+    ∷ Asked d d_cells (0 ∷ 100 ∷ 100 ∷ 10080 ∷ 50 ∷ 100 ∷ []) (2 ∷ 0 ∷ []) (Ok None) 0 0 0
+    ∷ Asked d d_cells (0 ∷ 100 ∷ 100 ∷ 10080 ∷ 50 ∷ 100 ∷ []) (0 ∷ []) (Ok None) 0 0 0
     -- "Given such a row, one call returns the first shared minute and the first after them". 01: "A refusal returns its number and 0 for all else"
-    ∷ Asked d d_cells (0 ∷ 100 ∷ 100 ∷ 10080 ∷ 50 ∷ 100 ∷ []) (0 ∷ 0 ∷ []) (Hours.Shared 50 100) 0 50 100
-    ∷ Asked d d_cells (0 ∷ 100 ∷ 100 ∷ 10080 ∷ 50 ∷ []) (0 ∷ 0 ∷ []) (Hours.Refused 24) 24 0 0
+    ∷ Asked d d_cells (0 ∷ 100 ∷ 100 ∷ 10080 ∷ 50 ∷ 100 ∷ []) (0 ∷ 0 ∷ []) (Ok (Some (record { from = 50; to = 100 }))) 0 50 100
+    ∷ Asked d d_cells (0 ∷ 100 ∷ 100 ∷ 10080 ∷ 50 ∷ []) (0 ∷ 0 ∷ []) (Err 24) 24 0 0
     -- "the buffer not 2n cells or a window not as stated, 24, after 4"
     ∷ Windowed d d_cells (0 ∷ 100 ∷ 100 ∷ 10080 ∷ 50 ∷ []) 24
     ∷ Windowed d d_cells (0 ∷ 100 ∷ 100 ∷ 10081 ∷ 50 ∷ 100 ∷ []) 24
@@ -512,27 +506,27 @@ cases =
     ∷ Written six six_cells six_text
     ∷ Read six_text (alike 7) (record { number = 0; shape = six }) six_cells
     -- "One call makes it.", the order: "A refusal returns its number", and else the number is 0
-    ∷ Ordered Order.Made (λ cause. Order.Refused cause)
+    ∷ Ordered (Ok tt) Err
     -- "returns the guard's layer and the area of the row in them"
-    ∷ Measured d d_cells (0 ∷ 0 ∷ []) (Row.Row 2 250000) 0 2 250000
-    ∷ Measured d d_cells (1 ∷ 0 ∷ []) (Row.Row 1 0) 0 1 0
+    ∷ Measured d d_cells (0 ∷ 0 ∷ []) (Ok (Some (record { layer = 2; area = 250000 }))) 0 2 250000
+    ∷ Measured d d_cells (1 ∷ 0 ∷ []) (Ok (Some (record { layer = 1; area = 0 }))) 0 1 0
     -- "Where they are not k cells or name no row of J, it returns layer 0 and area 0."
-    ∷ Measured d d_cells (0 ∷ []) Row.NoRow 0 0 0
-    ∷ Measured d d_cells (0 ∷ 0 ∷ 0 ∷ []) Row.NoRow 0 0 0
-    ∷ Measured d d_cells (2 ∷ 0 ∷ []) Row.NoRow 0 0 0
-    ∷ Measured d d_cells (0 ∷ 1 ∷ []) Row.NoRow 0 0 0
-    ∷ Measured (shape 2 1 1 0) apart (0 ∷ 0 ∷ []) Row.NoRow 0 0 0
+    ∷ Measured d d_cells (0 ∷ []) (Ok None) 0 0 0
+    ∷ Measured d d_cells (0 ∷ 0 ∷ 0 ∷ []) (Ok None) 0 0 0
+    ∷ Measured d d_cells (2 ∷ 0 ∷ []) (Ok None) 0 0 0
+    ∷ Measured d d_cells (0 ∷ 1 ∷ []) (Ok None) 0 0 0
+    ∷ Measured (shape 2 1 1 0) apart (0 ∷ 0 ∷ []) (Ok None) 0 0 0
     -- "A refusal returns its number and 0 for all else"
-    ∷ Measured (shape 2 1 0 0) (box 5 0 0 5 []) (0 ∷ 0 ∷ []) (Row.Refused 4) 4 0 0
+    ∷ Measured (shape 2 1 0 0) (box 5 0 0 5 []) (0 ∷ 0 ∷ []) (Err 4) 4 0 0
     -- 02, Q-7: "hand back their common rectangle and its kind: G with both sides above 0, E with exactly one side 0, P with both 0"
-    ∷ Grounded d d_cells (0 ∷ 0 ∷ []) (Common.Common (rect 500 500 1000 1000) Ground) 0 G (rect 500 500 1000 1000)
-    ∷ Grounded d d_cells (1 ∷ 0 ∷ []) (Common.Common (rect 1000 500 1500 500) Edge) 0 E (rect 1000 500 1500 500)
-    ∷ Grounded (shape 3 1 1 1) corner (0 ∷ 0 ∷ 0 ∷ []) (Common.Common (rect 10 10 10 10) Point) 0 P (rect 10 10 10 10)
+    ∷ Grounded d d_cells (0 ∷ 0 ∷ []) (Ok (Some (record { rect = rect 500 500 1000 1000; kind = Ground }))) 0 G (rect 500 500 1000 1000)
+    ∷ Grounded d d_cells (1 ∷ 0 ∷ []) (Ok (Some (record { rect = rect 1000 500 1500 500; kind = Edge }))) 0 E (rect 1000 500 1500 500)
+    ∷ Grounded (shape 3 1 1 1) corner (0 ∷ 0 ∷ 0 ∷ []) (Ok (Some (record { rect = rect 10 10 10 10; kind = Point }))) 0 P (rect 10 10 10 10)
     -- cells that name no row for the row call name none for this one, and it refuses the same plan
-    ∷ Grounded d d_cells (0 ∷ 0 ∷ 0 ∷ []) Common.NoRow 0 0 (rect 0 0 0 0)
-    ∷ Grounded d d_cells (2 ∷ 0 ∷ []) Common.NoRow 0 0 (rect 0 0 0 0)
-    ∷ Grounded (shape 2 1 1 0) apart (0 ∷ 0 ∷ []) Common.NoRow 0 0 (rect 0 0 0 0)
-    ∷ Grounded (shape 2 1 0 0) (box 5 0 0 5 []) (0 ∷ 0 ∷ []) (Common.Refused 4) 4 0 (rect 0 0 0 0)
+    ∷ Grounded d d_cells (0 ∷ 0 ∷ 0 ∷ []) (Ok None) 0 0 (rect 0 0 0 0)
+    ∷ Grounded d d_cells (2 ∷ 0 ∷ []) (Ok None) 0 0 (rect 0 0 0 0)
+    ∷ Grounded (shape 2 1 1 0) apart (0 ∷ 0 ∷ []) (Ok None) 0 0 (rect 0 0 0 0)
+    ∷ Grounded (shape 2 1 0 0) (box 5 0 0 5 []) (0 ∷ 0 ∷ []) (Err 4) 4 0 (rect 0 0 0 0)
     ∷ []
 
 abbrev pub GroundHolds : Type 0

@@ -2,9 +2,9 @@
 use Rattle.std.specs.Prelude.{◌≡◌, [], ◌∷◌, ℕ, replicate}
 use Rattle.plan.specs.Plan.{grown}
 use Rattle.sweep.specs.Sweep.{sweep_order}
-use Rattle.search.specs.declared.Stop.{Stop}
-use Rattle.search.specs.declared.Stop.TheVariants.{Ended, Full, Spent}
-use Rattle.paging.specs.declared.Page.{Page}
+use Rattle.search.specs.Stops.{Stop}
+use Rattle.search.specs.Stops.{Ended, Full, Spent}
+use Rattle.paging.specs.Answers.{PageValues}
 use Rattle.paging.specs.declared.Ticket.{Ticket}
 use Rattle.paging.specs.Cursors.{ended_cursor}
 use Rattle.rounds.specs.Rounds.{Request, round_call, round_counters, round_table}
@@ -25,7 +25,7 @@ three_ask = record {
 }
 
 -- a page without a whole square metre
-abbrev pub page : Stop → (rows probes rest : ℕ) → Ticket → Page
+abbrev pub page : Stop → (rows probes rest : ℕ) → Ticket → PageValues
 page stop rows probes rest ticket = record { stop = stop; rows = rows; probes = probes; area = record { metres = 0; rest = rest }; ticket = ticket }
 
 pub record ThreeServed : Type 0 where

@@ -13,19 +13,20 @@ use Rattle.decimal.proofs.Numerals.{length-decimal, size-most}
 use Rattle.plan.specs.declared.Shape.{Shape}
 use Rattle.plan.specs.Causes.{on_cause}
 use Rattle.plan.specs.Limits.{most_cells}
-use Rattle.text.specs.declared.Reading.{Reading}
+use Rattle.text.specs.Reader.{ReadValues}
 use Rattle.text.specs.Parsing.{lines_of}
-use Rattle.text.specs.Reader.{read_cause, text_shape, read_answer}
+use Rattle.text.specs.Reader.{read_cause, text_shape, read_answer, read_values}
 use Rattle.printing.specs.Lines.{line_of, refused_line}
 use Rattle.printing.specs.inner.Parts.{FitsAt}
 use Rattle.printing.proofs.Puts.{put_same}
 use Rattle.outcomes.specs.declared.Reply.{Reply}
 use Rattle.outcomes.specs.Texts.{ascii}
-use Rattle.outcomes.specs.Outcomes.{Told, error_line, cause_lines, cause_line, cause_text, done, refused_with, refused}
+use Rattle.outcomes.specs.Outcomes.{Told, error_line, cause_lines, cause_line, cause_text, done, refused_with, refused, done_reply, refused_reply}
 use Rattle.outcomes.specs.inner.Rooms.{Room, room_for_all, room_for_words}
 use Rattle.outcomes.proofs.Texts.{part-few}
 use Rattle.outcomes.proofs.Outcomes.{error-length, told_same, told-done, told-refused-with}
 use Rattle.checking.specs.declared.Spot.{Spot}
+use Rattle.checking.specs.declared.reason.Reason.{Reason}
 use Rattle.checking.specs.Lines.{bad_line}
 use Rattle.checking.specs.Places.{EndsAt, Spotted, PutWords}
 use Rattle.checking.specs.Reasons.{reason_of}
@@ -60,7 +61,7 @@ unfolding plan_found
 found-put s n out out_after r e p = rw e at p
 
 -- ---- the first line that is not well formed
-pub bad-put : (t : List ℕ) (s : Spot) (end reason : ℕ) (err last : List ℕ) (r : ℕ) → Spotted t s → EndsAt t s.at end
+pub bad-put : (t : List ℕ) (s : Spot) (end : ℕ) (reason : Reason) (err last : List ℕ) (r : ℕ) → Spotted t s → EndsAt t s.at end
     → reason_text reason ≡ reason_of (eqb s.number 1) (take (end - s.at) (drop s.at t))
     → Put err 0 (line_error s.number (reason_text reason)) last r → PutWords err (bad_error (bad_line t)) last r
 unfolding bad_error
@@ -93,24 +94,24 @@ pub told-long : (t out err out_after errAfter : List ℕ) (r : Reply) → 65536 
 unfolding check_of check_cause why_lines refused
 told-long t out err out_after errAfter r h p = told_same (refused 13) out err out_after errAfter r (check_of t) p (rw (lt-leb (length t) 65536 h))
 
-module _ (t : List ℕ) (a : Reading) (short : length t ≤ 65536) (room : ℕ) (most : room ≡ most_cells) (answer : a ≡ read_answer room t) (number : a.number ≡ read_cause room t) (out err : List ℕ) (lent : Room out err) where
+module _ (t : List ℕ) (a : ReadValues) (short : length t ≤ 65536) (room : ℕ) (most : room ≡ most_cells) (answer : a ≡ read_values (read_answer room t)) (number : a.number ≡ read_cause room t) (out err : List ℕ) (lent : Room out err) where
   cause-is : check_cause t ≡ a.number
   unfolding check_cause
   cause-is = rw (le-leb (length t) 65536 short) (sym (number ∙ ap (λ (m : ℕ). read_cause m t) most))
 
   -- an accepted text
   pub told-plan : (out_after : List ℕ) (n : ℕ) → a.number ≡ 0 → Put out 0 (plan_found a.shape) out_after n
-      → Told (check_of t) out err out_after err (record { status = 0; out = n; err = 0 })
+      → Told (check_of t) out err out_after err (done_reply n)
   unfolding check_of
   told-plan out_after n z p =
       let x : a ≡ record { number = 0; shape = text_shape t } = answer ∙ rw (sym number ∙ z) in
-      let y : a.shape ≡ text_shape t = ap (λ (w : Reading). w.shape) x in
+      let y : a.shape ≡ text_shape t = ap (λ (w : ReadValues). w.shape) x in
       let e : check_of t ≡ done (plan_found a.shape) = rw (cause-is, z, y) in
       told_same (done (plan_found a.shape)) out err out_after err _ (check_of t) (told-done out err (plan_found a.shape) out_after n (found-fits a.shape out lent.answer) p) e
 
   -- a refused one
   pub told-why : (out_after errAfter : List ℕ) (m n : ℕ) → (a.number ≡ 0 → ⊥) → Put out 0 (refused_line a.number) out_after m
-      → PutWords err (why_lines a.number t) errAfter n → Told (check_of t) out err out_after errAfter (record { status = 1; out = m; err = n })
+      → PutWords err (why_lines a.number t) errAfter n → Told (check_of t) out err out_after errAfter (refused_reply m n)
   unfolding check_of
   told-why out_after errAfter m n z p q =
       let o = refused_with a.number (why_lines a.number t) in

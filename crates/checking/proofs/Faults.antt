@@ -17,6 +17,8 @@ use Rattle.line.specs.declared.Line.TheVariants.{Plan, Layer, Rectangle}
 use Rattle.outcomes.specs.Texts.{up_to, behind_first, text_part}
 use Rattle.checking.specs.declared.Counts.{Counts}
 use Rattle.checking.specs.declared.Pen.{Pen}
+use Rattle.checking.specs.declared.reason.Reason.{Reason}
+use Rattle.checking.specs.declared.reason.Reason.TheVariants as reason
 use Rattle.checking.specs.Faults.{unless_note, is_from_to, size_of, count_rect, counted_with, missing, layer_faults, surplus, in_reach, side_faults, rect_faults, line_faults, plan_faults}
 use Rattle.checking.specs.inner.Words.{reason_lines, reason_text}
 use Rattle.checking.specs.inner.Notes.{PenIn, Noted}
@@ -71,11 +73,11 @@ module _ (c : Counts) where
   enough-over e = rw e
 
   -- ---- words
-  pub surplus-before : c.line ≡ 0 → reason_text 21 ≡ surplus c
+  pub surplus-before : c.line ≡ 0 → reason_text reason.EarlyRect ≡ surplus c
   unfolding surplus reason_text reason_lines text_part up_to behind_first
   surplus-before e = rw (eq-eqb c.line 0 e)
 
-  pub surplus-more : (c.line ≡ 0 → ⊥) → reason_text 20 ≡ surplus c
+  pub surplus-more : (c.line ≡ 0 → ⊥) → reason_text reason.ManyRects ≡ surplus c
   unfolding surplus reason_text reason_lines text_part up_to behind_first
   surplus-more n = rw (ne_eqb c.line 0 n)
 
@@ -87,23 +89,23 @@ reach-is r a b c d e f g h = rw (e, f, g, h)
 
 -- ---- things told
 module _ (buf last : List ℕ) (pen r : Pen) where
-  pub missing-noted : (c : Counts) → Noted buf pen (unless_note (eqb c.due 0) c.line (reason_text 19)) last r → Noted buf pen (missing c) last r
+  pub missing-noted : (c : Counts) → Noted buf pen (unless_note (eqb c.due 0) c.line (reason_text reason.FewRects)) last r → Noted buf pen (missing c) last r
   unfolding reason_text reason_lines text_part up_to behind_first
   missing-noted c p = p
 
   module _ (mid : List ℕ) (q : Pen) where
     pub layer-noted : (number : ℕ) (n m : ℤ) (u v : Bool) → u ≡ is_from_to (pos 0) (pos 512) n → v ≡ is_from_to (pos 0) (pos 50000) m
-        → Noted buf pen (unless_note u number (reason_text 17)) mid q → Noted mid q (unless_note v number (reason_text 18)) last r → Noted buf pen (layer_faults number n m) last r
+        → Noted buf pen (unless_note u number (reason_text reason.WrongSize)) mid q → Noted mid q (unless_note v number (reason_text reason.WrongMargin)) last r → Noted buf pen (layer_faults number n m) last r
     unfolding reason_text reason_lines text_part up_to behind_first
     layer-noted number n m u v e f a b = rw (sym e, sym f) (noted-then buf mid last pen q r _ _ a b)
 
-    pub rect-noted : (number : ℕ) (c : Counts) (x : Rect) (u : Bool) (i : ℕ) → u ≡ (c.over || ltb 0 c.due) → reason_text i ≡ surplus c
+    pub rect-noted : (number : ℕ) (c : Counts) (x : Rect) (u : Bool) (i : Reason) → u ≡ (c.over || ltb 0 c.due) → reason_text i ≡ surplus c
         → Noted buf pen (unless_note u number (reason_text i)) mid q → Noted mid q (side_faults number x) last r → Noted buf pen (rect_faults number c x) last r
     rect-noted number c x u i e f a b = rw (sym e, sym f) (noted-then buf mid last pen q r _ _ a b)
 
     pub sides-noted : (number : ℕ) (x : Rect) (w : Bool) (late : List ℕ) (p : Pen) → w ≡ in_reach x
-        → Noted buf pen (unless_note (le_z x.left x.right) number (reason_text 22)) mid q → Noted mid q (unless_note (le_z x.bottom x.top) number (reason_text 23)) late p
-        → Noted late p (unless_note w number (reason_text 24)) last r → Noted buf pen (side_faults number x) last r
+        → Noted buf pen (unless_note (le_z x.left x.right) number (reason_text reason.LeftAboveRight)) mid q → Noted mid q (unless_note (le_z x.bottom x.top) number (reason_text reason.BottomAboveTop)) late p
+        → Noted late p (unless_note w number (reason_text reason.OutOfRange)) last r → Noted buf pen (side_faults number x) last r
     unfolding reason_text reason_lines text_part up_to behind_first
     sides-noted number x w late p e a b d = noted-then buf mid last pen q r _ _ a (rw (sym e) (noted-then mid late last q p r _ _ b d))
 
@@ -111,8 +113,8 @@ module _ (buf last : List ℕ) (pen r : Pen) where
         → Noted buf pen (missing c ++ layer_faults number n m) last r
     layers-noted number c n m a b = noted-then buf mid last pen q r _ _ a b
 
-    pub plan-noted : (k : ℤ) (layers : ℕ) (v : Bool) (n : ℕ) → v ≡ is_from_to (pos 2) (pos 6) k → n ≡ size_of k → Noted buf pen (unless_note v 1 (reason_text 15)) mid q
-        → Noted mid q (unless_note (eqb n layers) 1 (reason_text 16)) last r → Noted buf pen (plan_faults k layers) last r
+    pub plan-noted : (k : ℤ) (layers : ℕ) (v : Bool) (n : ℕ) → v ≡ is_from_to (pos 2) (pos 6) k → n ≡ size_of k → Noted buf pen (unless_note v 1 (reason_text reason.WrongLayerCount)) mid q
+        → Noted mid q (unless_note (eqb n layers) 1 (reason_text reason.OtherLayerCount)) last r → Noted buf pen (plan_faults k layers) last r
     unfolding reason_text reason_lines text_part up_to behind_first
     plan-noted k layers v n e f a b = rw (sym e, sym f) (noted-then buf mid last pen q r _ _ a b)
 

@@ -16,6 +16,7 @@ use Rattle.printing.proofs.Puts.{put_same, put_both}
 use Rattle.outcomes.specs.Texts.{ascii}
 use Rattle.outcomes.specs.Outcomes.{error_line}
 use Rattle.checking.specs.declared.Pen.{Pen}
+use Rattle.checking.specs.declared.reason.Reason.{Reason}
 use Rattle.checking.specs.Faults.{Note, unless_note}
 use Rattle.checking.specs.Check.{line_error, note_errors, more_error}
 use Rattle.checking.specs.inner.Words.{reason_text}
@@ -44,10 +45,10 @@ module _ (buf : List ℕ) (pen : Pen) (p : PenIn buf pen) where
         })
 
   -- ---- one is told
-  pub note-room : (number reason : ℕ) → pen.told < 64 → FitsAt buf pen.at (line_error number (reason_text reason))
+  pub note-room : (number : ℕ) (reason : Reason) → pen.told < 64 → FitsAt buf pen.at (line_error number (reason_text reason))
   note-room number reason h = record { fits = omega (arith, p.long, p.at, error-few number reason) }
 
-  pub noted_one : (right : Bool) (number reason : ℕ) (last : List ℕ) (at : ℕ) → right ≡ false → pen.told < 64 → Put buf pen.at (line_error number (reason_text reason)) last at
+  pub noted_one : (right : Bool) (number : ℕ) (reason : Reason) (last : List ℕ) (at : ℕ) → right ≡ false → pen.told < 64 → Put buf pen.at (line_error number (reason_text reason)) last at
       → Noted buf pen (unless_note right number (reason_text reason)) last (record { at = at; told = pen.told + 1 })
   noted_one right number reason last at e h q =
       let m : ℕ = 63 - pen.told in

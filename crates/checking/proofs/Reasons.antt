@@ -1,5 +1,5 @@
 -- Laws of the tests of a line's bytes, as the code makes them byte by byte, and of the words of each reason.
-use mathlib.Core.Path.{◌≡◌, refl, sym, ap, ◌∙◌}
+use mathlib.Core.Path.{◌≡◌, sym, ap, ◌∙◌}
 use mathlib.Core.List.{List}
 use mathlib.Core.Bool.{Bool, true, false, ◌||◌}
 use Prim.Native.Nat.{ℕ, ◌+◌, ◌≤◌, ◌<◌}
@@ -8,36 +8,9 @@ use lib.Dec.{leb}
 use lib.ListN.{length, get_or, drop, drop_of_length-le}
 use borrow.Author.Tests.{eq-eqb, ne_eqb, le-leb, lt-leb}
 use Rattle.decimal.proofs.Places.{at_byte}
-use Rattle.checking.specs.Reasons.{has, digit, digit_next, zero_leads, leading_zero, run_on, long_number}
-
--- ---- a byte in a line
--- the rest of the line, from i on, decides
-pub record Looking (byte : ℕ) (l : List ℕ) (from i : ℕ) : Type 0 where
-  pub gives : has byte (drop i l) ≡ has byte (drop from l)
-  pub inside : i ≤ length l
-
-pub looking-start : (byte : ℕ) (l : List ℕ) (from : ℕ) → from ≤ length l → Looking byte l from from
-looking-start byte l from h = record { gives = refl; inside = h }
-
-module _ (byte : ℕ) (l : List ℕ) (from i : ℕ) (k : Looking byte l from i) where
-  pub looking-found : i < length l → get_or l i 0 ≡ byte → true ≡ has byte (drop from l)
-  looking-found h e = sym (rw (at_byte l i h, eq-eqb (get_or l i 0) byte e)) ∙ k.gives
-
-  pub looking-more : i < length l → (get_or l i 0 ≡ byte → ⊥) → Looking byte l from (i + 1)
-  looking-more h n = record { gives = sym (rw (at_byte l i h, ne_eqb (get_or l i 0) byte n)) ∙ k.gives; inside = omega arith }
-
-  pub looking-end : length l ≤ i → false ≡ has byte (drop from l)
-  looking-end h = sym (ap (has byte) (drop_of_length-le l {i = i} h)) ∙ k.gives
+use Rattle.checking.specs.Reasons.{digit, digit_next, zero_leads, leading_zero, run_on, long_number}
 
 -- ---- digits
-pub digit_low : (b : ℕ) → b < 48 → false ≡ digit b
-unfolding digit
-digit_low b h = rw (lt-leb 48 b h)
-
-pub digit-high : (b : ℕ) → 48 ≤ b → leb b 57 ≡ digit b
-unfolding digit
-digit-high b h = rw (le-leb 48 b h)
-
 module _ (l : List ℕ) (i : ℕ) where
   pub digit-there : (v : Bool) → i < length l → v ≡ digit (get_or l i 0) → v ≡ digit_next (drop i l)
   digit-there v h e = e ∙ sym (ap digit_next (at_byte l i h))
@@ -70,9 +43,6 @@ pub record Leading (l : List ℕ) (before i : ℕ) : Type 0 where
   pub gives : leading_zero before (drop i l) ≡ leading_zero 0 l
   pub inside : i ≤ length l
 
-pub leading-start : (l : List ℕ) → Leading l 0 0
-leading-start l = record { gives = refl; inside = omega arith }
-
 module _ (l : List ℕ) (before i : ℕ) (k : Leading l before i) where
   next-zero : i < length l → (zero_leads before (get_or l i 0) (drop (i + 1) l) || leading_zero (get_or l i 0) (drop (i + 1) l)) ≡ leading_zero 0 l
   next-zero h = sym (ap (leading_zero before) (at_byte l i h)) ∙ k.gives
@@ -100,9 +70,6 @@ pub record Running (l : List ℕ) (run i : ℕ) : Type 0 where
   pub gives : long_number run (drop i l) ≡ long_number 0 l
   pub inside : i ≤ length l
   pub few : run < 9
-
-pub running-start : (l : List ℕ) → Running l 0 0
-running-start l = record { gives = refl; inside = omega arith; few = omega arith }
 
 module _ (l : List ℕ) (run i : ℕ) (k : Running l run i) where
   next-run : (next : ℕ) → i < length l → next ≡ run_on run (get_or l i 0) → (leb 9 next || long_number next (drop (i + 1) l)) ≡ long_number 0 l

@@ -13,7 +13,8 @@ use Rattle.outcomes.specs.inner.Places.{EndsAt, StartsAt}
 use Rattle.outcomes.specs.inner.Rooms.{room_for_words}
 use Rattle.outcomes.proofs.Texts.{part_bytes, part-few}
 use Rattle.checking.specs.Check.{line_error}
-use Rattle.checking.specs.inner.Words.{reason_lines, reason_text}
+use Rattle.checking.specs.declared.reason.Reason.{Reason}
+use Rattle.checking.specs.inner.Words.{reason_number, reason_lines, reason_text}
 
 -- ---- a line of a text by its number
 module _ (buf : List ℕ) (at n : ℕ) (text : List ℕ) (from end : ℕ) (s : StartsAt 10 n text from) (f : EndsAt 10 text from end) where
@@ -26,31 +27,27 @@ module _ (buf : List ℕ) (at n : ℕ) (text : List ℕ) (from end : ℕ) (s : S
   pub part-put : (last : List ℕ) (r : ℕ) → Put buf at (take (end - from) (drop from text) ++ 10 ∷ []) last r → Put buf at (text_part 10 n text ++ 10 ∷ []) last r
   part-put last r p = rw part_same at p
 
--- ---- a reason
-module _ (buf : List ℕ) (at reason : ℕ) (lines : List ℕ) (e : lines ≡ reason_lines) where
-  pub reason-room : FitsAt buf at (reason_text reason ++ 10 ∷ []) → FitsAt buf at (text_part 10 reason lines ++ 10 ∷ [])
-  unfolding reason_text
-  reason-room h = rw e h
-
-  pub reason-put : (last : List ℕ) (r : ℕ) → Put buf at (text_part 10 reason lines ++ 10 ∷ []) last r → Put buf at (reason_text reason ++ 10 ∷ []) last r
-  unfolding reason_text
-  reason-put last r p = rw e at p
-
 -- ---- a line's number and words
-pub error-parts : (number : ℕ) (words : List ℕ) → line_error number words ≡ ascii "overlay: line " ++ (decimal number ++ (ascii ": " ++ (words ++ 10 ∷ [])))
+error-parts : (number : ℕ) (words : List ℕ) → line_error number words ≡ ascii "overlay: line " ++ (decimal number ++ (ascii ": " ++ (words ++ 10 ∷ [])))
 unfolding line_error
 error-parts number words = simp append_assoc
+
+-- the words being a line of the table
+pub error-is : (number : ℕ) (reason : Reason) (n : ℕ) (lines : List ℕ) → lines ≡ reason_lines → n ≡ reason_number reason
+    → line_error number (reason_text reason) ≡ ascii "overlay: line " ++ (decimal number ++ (ascii ": " ++ (text_part 10 n lines ++ 10 ∷ [])))
+unfolding reason_text
+error-is number reason n lines e f = rw (e, f) (error-parts number (reason_text reason))
 
 -- there is room for the words before the number
 pub word_first : (buf : List ℕ) (at number : ℕ) (words : List ℕ) → FitsAt buf at (line_error number words) → at + 14 ≤ length buf
 word_first buf at number words h = omega (arith, h.fits, ap length (error-parts number words))
 
-reason-few : (reason : ℕ) → length (reason_text reason) ≤ 866
+reason-few : (reason : Reason) → length (reason_text reason) ≤ 866
 unfolding reason_text reason_lines
-reason-few reason = part-few 10 reason reason_lines
+reason-few reason = part-few 10 (reason_number reason) reason_lines
 
 -- no number has more than twenty digits
-pub error-few : (number reason : ℕ) → length (line_error number (reason_text reason)) ≤ 903
+pub error-few : (number : ℕ) (reason : Reason) → length (line_error number (reason_text reason)) ≤ 903
 error-few number reason =
     let words = reason_text reason ++ 10 ∷ [] in
     rw (error-parts number (reason_text reason))
@@ -63,5 +60,5 @@ error-few number reason =
       reason-few reason,
     ))
 
-pub error-room : (err : List ℕ) (number reason : ℕ) → room_for_words ≤ length err → FitsAt err 0 (line_error number (reason_text reason))
+pub error-room : (err : List ℕ) (number : ℕ) (reason : Reason) → room_for_words ≤ length err → FitsAt err 0 (line_error number (reason_text reason))
 error-room err number reason h = record { fits = omega (arith, error-few number reason) }

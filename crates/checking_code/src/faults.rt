@@ -9,14 +9,9 @@ ghost use Rattle.checking.specs.Places.{PutWords};
 ghost use Rattle.checking.specs.inner.Notes.{PenIn, Noted, LinesFrom, Headed};
 
 use crate::notes::{count_line, put_more, size_of, tell, tell_line, tell_missing, within};
-use checking::{Counts, Pen};
+use checking::{Counts, Pen, Reason};
 use lexer::read_line;
-use line::{Found, Line};
-
-// The reasons where k is not from 2 to 6, and where there are not k LAYER lines.
-const FEW_LAYERS: u32 = 15;
-
-const LAYERS: u32 = 16;
+use line::Line;
 
 // 1 of a LAYER line, 0 of another.
 fn layer_line(line: Line) -> usize
@@ -37,7 +32,7 @@ fn layers_from(text: &[u8], from: usize) -> usize
     let mut at = from;
     let mut count: usize = 0;
     while at < text.len() {
-        let Found::At(line, next) = read_line(text, at) else {
+        let Some((line, next)) = read_line(text, at) else {
             return count;
         };
         count += layer_line(line);
@@ -60,7 +55,7 @@ fn tell_lines(text: &[u8], from: usize, err: &mut [u8], pen: Pen) -> Pen
         over: false,
     };
     while at < text.len() {
-        let Found::At(line, next) = read_line(text, at) else {
+        let Some((line, next)) = read_line(text, at) else {
             return p;
         };
         p = tell_line(err, p, number, c, line);
@@ -76,8 +71,20 @@ fn tell_plan(err: &mut [u8], k: i32, layers: usize) -> Pen
     requires { room_for_words ≤ length err.old }
     ensures { Noted err.old (record { at = 0; told = 0 }) (plan_faults k layers) err.new result }
 {
-    let p = tell(err, Pen { at: 0, told: 0 }, within(2, 6, k), 1, FEW_LAYERS);
-    tell(err, p, size_of(k) as usize == layers, 1, LAYERS)
+    let p = tell(
+        err,
+        Pen { at: 0, told: 0 },
+        within(2, 6, k),
+        1,
+        Reason::WrongLayerCount,
+    );
+    tell(
+        err,
+        p,
+        size_of(k) as usize == layers,
+        1,
+        Reason::OtherLayerCount,
+    )
 }
 
 // What is wrong with a text whose PLAN line says k and ends at `next`; the length of the lines that say so.
@@ -96,7 +103,7 @@ pub fn put_faults(text: &[u8], err: &mut [u8]) -> usize
     requires { (is_some (lines_of text.now) ≡ true) × (length text.now ≤ 65536) × (room_for_words ≤ length err.old) }
     ensures { PutWords err.old (fault_errors (list_in (lines_of text.now))) err.new result }
 {
-    let Found::At(line, next) = read_line(text, 0) else {
+    let Some((line, next)) = read_line(text, 0) else {
         return 0;
     };
     match line {

@@ -10,6 +10,7 @@ mod words;
 ghost use Rattle.std.specs.Prelude.{◌≡◌, [], ◌∷◌, ◌≤◌, length};
 ghost use Rattle.lists.specs.inner.Stores.{Put};
 ghost use Rattle.decimal.specs.Numerals.{decimal};
+ghost use Rattle.plan.specs.Causes.{number_of};
 ghost use Rattle.plan.specs.Limits.{most_cells};
 ghost use Rattle.text.specs.Reader.{read_cause};
 ghost use Rattle.printing.specs.Lines.{line_of, fields_end};
@@ -22,9 +23,9 @@ ghost use Rattle.checking.specs.Places.{PutWords};
 ghost use Rattle.checking.specs.Check.{plan_found, bad_error, why_lines, check_of};
 
 use faults::put_faults;
-use outcomes::Reply;
+use outcomes::{LONGEST_INPUT, Reply};
 use outcomes_code::{put_cause, put_refusal};
-use plan::{MOST_CELLS, Shape};
+use plan::{Cause, MOST_CELLS, Shape};
 use plan_code::count_of;
 use printing_code::{put_field, put_last, put_refused};
 use reader::read;
@@ -34,10 +35,7 @@ pub use seek::line_end;
 use seek::seek;
 use speller::put_word;
 use words::put_line_error;
-pub use words::put_part;
-
-// The longest input.
-const LONGEST_INPUT: usize = 65536;
+pub use words::put_numbered;
 
 // What `check` says of a text, put into two lent buffers.
 pub fn check(text: &[u8], out: &mut [u8], err: &mut [u8]) -> Reply
@@ -45,7 +43,7 @@ pub fn check(text: &[u8], out: &mut [u8], err: &mut [u8]) -> Reply
     ensures { Told (check_of text.now) out.old err.old out.new err.new result }
 {
     if LONGEST_INPUT < text.len() {
-        return put_refusal(out, err, 13);
+        return put_refusal(out, err, Cause::LongInput);
     }
     let mut cells = [0i32; MOST_CELLS];
     check_text(text, &mut cells, out, err)
@@ -56,21 +54,13 @@ fn check_text(text: &[u8], cells: &mut [i32], out: &mut [u8], err: &mut [u8]) ->
     requires { (length text.now ≤ 65536) × (length cells.old ≡ most_cells) × Room out.old err.old }
     ensures { Told (check_of text.now) out.old err.old out.new err.new result }
 {
-    let reading = read(text, cells);
-    if reading.number == 0 {
-        let n = put_plan(out, reading.shape);
-        return Reply {
-            status: 0,
-            out: n,
-            err: 0,
-        };
-    }
-    let m = put_refused(out, 0, reading.number);
-    let n = put_why(text, reading.number, err);
-    Reply {
-        status: 1,
-        out: m,
-        err: n,
+    match read(text, cells) {
+        Ok(shape) => Reply::done(put_plan(out, shape)),
+        Err(cause) => {
+            let m = put_refused(out, 0, cause);
+            let n = put_why(text, cause, err);
+            Reply::refused(m, n)
+        }
     }
 }
 
@@ -102,17 +92,15 @@ fn put_two(out: &mut [u8], at: usize, k: u64, n: u64) -> usize
 }
 
 // Why a text is refused, by its cause; the length of the lines.
-fn put_why(text: &[u8], cause: u32, err: &mut [u8]) -> usize
-    requires { (cause ≡ read_cause most_cells text.now) × (length text.now ≤ 65536) × (room_for_words ≤ length err.old) }
-    ensures { PutWords err.old (why_lines cause text.now) err.new result }
+fn put_why(text: &[u8], cause: Cause, err: &mut [u8]) -> usize
+    requires { (number_of cause ≡ read_cause most_cells text.now) × (length text.now ≤ 65536) × (room_for_words ≤ length err.old) }
+    ensures { PutWords err.old (why_lines (number_of cause) text.now) err.new result }
 {
-    if cause == 9 {
-        return put_bad(text, err);
+    match cause {
+        Cause::MalformedText => put_bad(text, err),
+        Cause::WrongPlanText => put_faults(text, err),
+        _ => put_cause(err, cause),
     }
-    if cause == 10 {
-        return put_faults(text, err);
-    }
-    put_cause(err, cause)
 }
 
 // The first line that is not well formed, and what is wrong with it; the length of the line that says so.

@@ -8,7 +8,7 @@ ghost use Rattle.checking.specs.inner.Words.{reason_text};
 ghost use Rattle.checking.specs.inner.Notes.{PenIn, Noted};
 
 use crate::words::put_line_error;
-use checking::{Counts, Pen};
+use checking::{Counts, Pen, Reason};
 use geometry::Rect;
 use line::Line;
 use outcomes_code::put_line;
@@ -20,23 +20,6 @@ const MOST_NOTES: usize = 64;
 // Where more things are wrong than are told.
 const ONE_MORE: usize = 65;
 
-// The reasons, in the order of the table.
-const SIZE: u32 = 17;
-
-const MARGIN: u32 = 18;
-
-const FEWER: u32 = 19;
-
-const MORE: u32 = 20;
-
-const BEFORE: u32 = 21;
-
-const LEFT: u32 = 22;
-
-const BOTTOM: u32 = 23;
-
-const RANGE: u32 = 24;
-
 // The largest size and the largest margin of a layer.
 const LARGEST: i32 = MOST_SIZE as i32;
 
@@ -47,8 +30,9 @@ const LOWEST: i32 = -10_000_000;
 
 const HIGHEST: i32 = 10_000_000;
 
-// A thing, unless its test was passed; where enough were told, that there is more.
-pub fn tell(err: &mut [u8], pen: Pen, right: bool, number: usize, reason: u32) -> Pen
+// A thing, unless its test was passed; where enough were told, that there is more. The test's result comes along, since each caller would else branch around
+// the call and hand on its pen in both branches.
+pub fn tell(err: &mut [u8], pen: Pen, right: bool, number: usize, reason: Reason) -> Pen
     requires { PenIn err.old pen }
     ensures { Noted err.old pen (unless_note right number (reason_text reason)) err.new result }
 {
@@ -72,20 +56,14 @@ pub fn tell(err: &mut [u8], pen: Pen, right: bool, number: usize, reason: u32) -
 pub fn within(low: i32, high: i32, z: i32) -> bool
     ensures { result ≡ is_from_to low high z }
 {
-    if low <= z {
-        return z <= high;
-    }
-    false
+    low <= z && z <= high
 }
 
 // A number, or 0 where it is below 0.
 pub fn size_of(z: i32) -> u32
     ensures { result ≡ size_of z }
 {
-    if 0 <= z {
-        return z as u32;
-    }
-    0
+    z.max(0) as u32
 }
 
 // What is counted with one line more.
@@ -107,14 +85,14 @@ pub fn count_line(number: usize, c: Counts, line: Line) -> Counts
 fn count_rect(c: Counts) -> Counts
     ensures { result ≡ count_rect c }
 {
-    let mut d = c;
     if c.due == 0 {
-        d.over = true;
-        return d;
+        return Counts { over: true, ..c };
     }
-    d.due = c.due - 1;
-    d.over = false;
-    d
+    Counts {
+        due: c.due - 1,
+        over: false,
+        ..c
+    }
 }
 
 // A LAYER line that has not all its RECT lines.
@@ -122,7 +100,7 @@ pub fn tell_missing(err: &mut [u8], pen: Pen, c: Counts) -> Pen
     requires { PenIn err.old pen }
     ensures { Noted err.old pen (missing c) err.new result }
 {
-    tell(err, pen, c.due == 0, c.line, FEWER)
+    tell(err, pen, c.due == 0, c.line, Reason::FewRects)
 }
 
 // What is wrong with the numbers of a LAYER line.
@@ -130,28 +108,31 @@ fn tell_layer(err: &mut [u8], pen: Pen, number: usize, n: i32, margin: i32) -> P
     requires { PenIn err.old pen }
     ensures { Noted err.old pen (layer_faults number n margin) err.new result }
 {
-    let p = tell(err, pen, within(0, LARGEST, n), number, SIZE);
-    tell(err, p, within(0, WIDEST, margin), number, MARGIN)
+    let p = tell(err, pen, within(0, LARGEST, n), number, Reason::WrongSize);
+    tell(
+        err,
+        p,
+        within(0, WIDEST, margin),
+        number,
+        Reason::WrongMargin,
+    )
 }
 
 // Whether no RECT line is too many, or that was told.
 fn enough(c: Counts) -> bool
     ensures { result ≡ (c.over || ltb 0 c.due) }
 {
-    if c.over {
-        return true;
-    }
-    0 < c.due
+    c.over || 0 < c.due
 }
 
 // Why a RECT line is too many.
-fn surplus_reason(c: Counts) -> u32
+fn surplus_reason(c: Counts) -> Reason
     ensures { reason_text result ≡ surplus c }
 {
     if c.line == 0 {
-        return BEFORE;
+        return Reason::EarlyRect;
     }
-    MORE
+    Reason::ManyRects
 }
 
 // Whether all coordinates of a rectangle are in range.
@@ -169,9 +150,9 @@ fn tell_sides(err: &mut [u8], pen: Pen, number: usize, r: Rect) -> Pen
     requires { PenIn err.old pen }
     ensures { Noted err.old pen (side_faults number r) err.new result }
 {
-    let p = tell(err, pen, r.left <= r.right, number, LEFT);
-    let q = tell(err, p, r.bottom <= r.top, number, BOTTOM);
-    tell(err, q, in_reach(r), number, RANGE)
+    let p = tell(err, pen, r.left <= r.right, number, Reason::LeftAboveRight);
+    let q = tell(err, p, r.bottom <= r.top, number, Reason::BottomAboveTop);
+    tell(err, q, in_reach(r), number, Reason::OutOfRange)
 }
 
 // What is wrong with a RECT line.

@@ -5,9 +5,10 @@ ghost use Rattle.checking.specs.Places.{Spotted, EndsAt};
 
 use checking::Spot;
 use lexer::read_line;
-use line::{Found, Line};
+use line::Line;
+use outcomes_code::next_part;
 
-// Whether a line may stand there: a PLAN line as the first, and LAYER and RECT lines behind it.
+// Whether a line may stand there: a PLAN line as the first, and LAYER and RECT lines behind it. That it is the first is a fact of the line, no step to run.
 fn in_place(first: bool, line: Line) -> bool
     ensures { result ≡ in_place first line }
 {
@@ -27,7 +28,7 @@ pub fn seek(s: &[u8]) -> Spot
     let mut number: usize = 1;
     let mut first = true;
     while at < s.len() {
-        let Found::At(line, next) = read_line(s, at) else {
+        let Some((line, next)) = read_line(s, at) else {
             return Spot { number, at };
         };
         if !in_place(first, line) {
@@ -45,13 +46,5 @@ pub fn line_end(s: &[u8], at: usize) -> usize
     requires { at ≤ length s.now }
     ensures { EndsAt s.now at result }
 {
-    let mut i = at;
-    while i < s.len() {
-        let b = s[i];
-        i += 1;
-        if b == b'\n' {
-            return i;
-        }
-    }
-    i
+    next_part(s, at, b'\n')
 }

@@ -7,7 +7,8 @@ ghost use Rattle.outcomes.specs.Texts.{ascii, text_part};
 ghost use Rattle.checking.specs.Check.{line_error};
 ghost use Rattle.checking.specs.inner.Words.{reason_lines, reason_text};
 
-use outcomes_code::{end_of, part_from, put_line};
+use checking::Reason;
+use outcomes_code::{part_of, put_line};
 use speller::{put_decimal, put_word};
 
 // All reasons, a line each, from 0.
@@ -41,48 +42,38 @@ bottom above top\n\
 a coordinate above 10000000 or below -10000000\n"
 }
 
-// The words of a reason, and the byte that ends their line; the place behind it.
-fn put_reason(err: &mut [u8], at: usize, reason: u32) -> usize
-    requires { FitsAt err.old at (reason_text reason ++ 10 ∷ []) }
-    ensures { Put err.old at (reason_text reason ++ 10 ∷ []) err.new result }
-{
-    let lines = reason_lines();
-    put_part(err, at, &lines, reason)
-}
-
 // A line of a text by its number, from 0; the place behind it.
-pub fn put_part(buf: &mut [u8], at: usize, text: &[u8], n: u32) -> usize
+fn put_part(buf: &mut [u8], at: usize, text: &[u8], n: u32) -> usize
     requires { FitsAt buf.old at (text_part 10 n text.now ++ 10 ∷ []) }
     ensures { Put buf.old at (text_part 10 n text.now ++ 10 ∷ []) buf.new result }
 {
-    let from = part_from(text, n, b'\n');
-    let end = end_of(text, from, b'\n');
-    put_line(buf, at, &text[from..end])
+    put_line(buf, at, part_of(text, n, b'\n'))
 }
 
-// A line's number, a colon and a reason; the place behind them.
-fn put_number(err: &mut [u8], at: usize, number: usize, reason: u32) -> usize
-    requires { FitsAt err.old at (decimal number ++ (ascii ": " ++ (reason_text reason ++ 10 ∷ []))) }
-    ensures { Put err.old at (decimal number ++ (ascii ": " ++ (reason_text reason ++ 10 ∷ []))) err.new result }
+// A colon and a line of a text by its number; the place behind them.
+fn put_colon(buf: &mut [u8], at: usize, text: &[u8], n: u32) -> usize
+    requires { FitsAt buf.old at (ascii ": " ++ (text_part 10 n text.now ++ 10 ∷ [])) }
+    ensures { Put buf.old at (ascii ": " ++ (text_part 10 n text.now ++ 10 ∷ [])) buf.new result }
 {
-    let a = put_decimal(err, at, number as u64);
-    put_colon(err, a, reason)
+    let a = put_word(buf, at, b": ");
+    put_part(buf, a, text, n)
 }
 
-// A colon and a reason; the place behind them.
-fn put_colon(err: &mut [u8], at: usize, reason: u32) -> usize
-    requires { FitsAt err.old at (ascii ": " ++ (reason_text reason ++ 10 ∷ [])) }
-    ensures { Put err.old at (ascii ": " ++ (reason_text reason ++ 10 ∷ [])) err.new result }
+// A number, a colon and a line of a text by its number; the place behind them.
+pub fn put_numbered(buf: &mut [u8], at: usize, number: u64, text: &[u8], n: u32) -> usize
+    requires { FitsAt buf.old at (decimal number ++ (ascii ": " ++ (text_part 10 n text.now ++ 10 ∷ []))) }
+    ensures { Put buf.old at (decimal number ++ (ascii ": " ++ (text_part 10 n text.now ++ 10 ∷ []))) buf.new result }
 {
-    let a = put_word(err, at, b": ");
-    put_reason(err, a, reason)
+    let a = put_decimal(buf, at, number);
+    put_colon(buf, a, text, n)
 }
 
 // A line on standard error that names a line of the text, and a reason; the place behind it.
-pub fn put_line_error(err: &mut [u8], at: usize, number: usize, reason: u32) -> usize
+pub fn put_line_error(err: &mut [u8], at: usize, number: usize, reason: Reason) -> usize
     requires { FitsAt err.old at (line_error number (reason_text reason)) }
     ensures { Put err.old at (line_error number (reason_text reason)) err.new result }
 {
+    let lines = reason_lines();
     let a = put_word(err, at, b"overlay: line ");
-    put_number(err, a, number, reason)
+    put_numbered(err, a, number as u64, &lines, u32::from(reason))
 }

@@ -3,8 +3,10 @@ use mathlib.Core.Path.{◌≡◌, refl, sym, ap, ◌∙◌}
 use mathlib.Core.List.{List}
 use mathlib.Core.Bool.{Bool, true, false, not, cond}
 use Prim.Native.Nat.{ℕ, suc, ◌+◌, ◌-◌, ◌≤◌, ◌<◌}
+use lib.Dec.{leb}
+use Rattle.std.specs.Prelude.{min}
 use native.Mathlib.Omega.{arith}
-use borrow.Author.Tests.{eq-eqb, ne_eqb, le-leb, lt-leb, not-true, not-false}
+use borrow.Author.Tests.{eq-eqb, ne_eqb, leb-true, leb-false, not-true, not-false}
 use Rattle.lists.specs.Lists.{same}
 use Rattle.outcomes.specs.Texts.{ascii}
 use Rattle.commands.specs.Arguments.{argument, is_number, is_taken, leading_numbers, weight_at, given_in, looked}
@@ -42,9 +44,6 @@ module _ (dash : ℕ) (args : List ℕ) (most : ℕ) where
     pub few : n ≤ most
     pub rest : n + leading_numbers dash args (n + 1) (most - n) ≡ leading_numbers dash args 1 most
 
-  pub numbered-none : Numbered 0
-  numbered-none = let k : most - 0 ≡ most = omega arith in record { few = omega arith; rest = ap (λ (f : ℕ). 0 + leading_numbers dash args 1 f) k ∙ omega arith }
-
   module _ (n : ℕ) (c : Numbered n) where
     next-number : n < most → (v : Bool) → v ≡ is_taken dash (argument (n + 1) args)
         → leading_numbers dash args (n + 1) (most - n) ≡ cond v (suc (leading_numbers dash args (n + 1 + 1) (most - (n + 1)))) 0
@@ -68,14 +67,10 @@ module _ (dash : ℕ) (args : List ℕ) (most : ℕ) where
         let e : leading_numbers dash args (n + 1) (most - n) ≡ 0 = ap (leading_numbers dash args (n + 1)) k in
         omega (arith, c.rest, e)
 
-pub looked-none : (count : ℕ) → count ≡ 0 → looked count ≡ 0
+pub looked-least : (count n : ℕ) → n ≡ min (count - 1) 7 → n ≡ looked count
 unfolding looked
-looked-none count h = rw h refl
-
-pub looked-few : (count : ℕ) → count ≤ 8 → count - 1 ≡ looked count
-unfolding looked
-looked-few count h = rw (le-leb count 8 h) refl
-
-pub looked-many : (count : ℕ) → 8 < count → 7 ≡ looked count
-unfolding looked
-looked-many count h = rw (lt-leb count 8 h) refl
+looked-least count n e = go (leb count 8) refl
+  where
+    go : (t : Bool) → leb count 8 ≡ t → n ≡ cond t (count - 1) 7
+    go true h = omega (arith, e, leb-true count 8 h)
+    go false h = omega (arith, e, leb-false count 8 h)

@@ -12,62 +12,61 @@ use lib.ListN.{length}
 use borrow.Author.Tests.{eq-eqb, ne_eqb, ltb-true}
 use Rattle.lists.specs.Lists.{is_some}
 use Rattle.lists.proofs.Tests.{clash}
-use Rattle.decimal.specs.declared.Number.{Number}
-use Rattle.decimal.specs.declared.Number.TheVariants.{Value, Bad}
+use Rattle.std.specs.Prelude.{Option, Some, None}
 use Rattle.decimal.specs.Reading.{Reading, number}
-use Rattle.decimal.specs.inner.Places.{placed, number_from}
+use Rattle.decimal.specs.inner.Places.{read_to, placed, number_from}
 use Rattle.commands.specs.Arguments.{box_of, argument, whole, is_number, value_in, argument_value, natural_of, from_one, layer_in}
 
 -- ---- numbers
-abbrev is-value : Number → Bool
-is-value (Value z next) = true
-is-value Bad = false
+abbrev is-value : Option (ℤ × ℕ) → Bool
+is-value (Some p) = true
+is-value None = false
 
-abbrev value_of_number : ℤ → Number → ℤ
-value_of_number d (Value z next) = z
-value_of_number d Bad = d
+abbrev value_of_number : ℤ → Option (ℤ × ℕ) → ℤ
+value_of_number d (Some p) = p.0
+value_of_number d None = d
 
-abbrev place_in : Number → ℕ
-place_in (Value z next) = next
-place_in Bad = 0
+abbrev place_in : Option (ℤ × ℕ) → ℕ
+place_in (Some p) = p.1
+place_in None = 0
 
 -- a reading of a word of at least one byte takes the whole word where it ends behind its last byte
 module _ (n : ℕ) (z : ℤ) (next : ℕ) where
-  reading-whole : (r : Reading ℤ) → Value z next ≡ placed (suc n) r → eqb next (suc n) ≡ is_some (whole r)
+  reading-whole : (r : Reading ℤ) → read_to z next ≡ placed (suc n) r → eqb next (suc n) ≡ is_some (whole r)
   reading-whole none e = clash refl (ap is-value e)
   reading-whole (some (y, [])) e = let h = ap place_in e in eq-eqb next (suc n) (omega (arith, h))
   reading-whole (some (y, b ∷ t)) e = let h = ap place_in e in ne_eqb next (suc n) (λ g. omega (arith, h, g))
 
-word-whole : (word : List ℕ) (z : ℤ) (next : ℕ) → Value z next ≡ number_from word 0 → eqb next (length word) ≡ is_number word
+word-whole : (word : List ℕ) (z : ℤ) (next : ℕ) → read_to z next ≡ number_from word 0 → eqb next (length word) ≡ is_number word
 unfolding number_from is_number number
 word-whole [] z next e = clash refl (ap is-value e)
 word-whole (b ∷ t) z next e = reading-whole (length t) z next (number (b ∷ t)) e
 
-pub number-whole : (word : List ℕ) (r : Number) (z : ℤ) (next : ℕ) → r ≡ number_from word 0 → r ≡ Value z next → eqb next (length word) ≡ is_number word
+pub number-whole : (word : List ℕ) (r : Option (ℤ × ℕ)) (z : ℤ) (next : ℕ) → r ≡ number_from word 0 → r ≡ read_to z next → eqb next (length word) ≡ is_number word
 number-whole word r z next e f = word-whole word z next (sym f ∙ e)
 
-reading-none : (n : ℕ) (r : Reading ℤ) → Bad ≡ placed n r → false ≡ is_some (whole r)
+reading-none : (n : ℕ) (r : Reading ℤ) → None ≡ placed n r → false ≡ is_some (whole r)
 reading-none n none e = refl
 reading-none n (some p) e = clash refl (ap is-value (sym e))
 
-pub number-none : (word : List ℕ) (r : Number) → r ≡ number_from word 0 → r ≡ Bad → false ≡ is_number word
+pub number-none : (word : List ℕ) (r : Option (ℤ × ℕ)) → r ≡ number_from word 0 → r ≡ None → false ≡ is_number word
 unfolding number_from is_number
 number-none word r e f = reading-none (length word) (number word) (sym f ∙ e)
 
 -- ---- which number a word is
-reading-value : (n : ℕ) (r : Reading ℤ) (z : ℤ) (place : ℕ) → Value z place ≡ placed n r → z ≡ value_in r
+reading-value : (n : ℕ) (r : Reading ℤ) (z : ℤ) (place : ℕ) → read_to z place ≡ placed n r → z ≡ value_in r
 reading-value n none z place e = clash refl (ap is-value e)
 reading-value n (some (y, t)) z place e = ap (value_of_number z) e
 
-pub number-value : (word : List ℕ) (r : Number) (z : ℤ) (place : ℕ) → r ≡ number_from word 0 → r ≡ Value z place → z ≡ argument_value word
+pub number-value : (word : List ℕ) (r : Option (ℤ × ℕ)) (z : ℤ) (place : ℕ) → r ≡ number_from word 0 → r ≡ read_to z place → z ≡ argument_value word
 unfolding number_from argument_value
 number-value word r z place e f = reading-value (length word) (number word) z place (sym f ∙ e)
 
-reading-zero : (n : ℕ) (r : Reading ℤ) → Bad ≡ placed n r → value_in r ≡ pos 0
+reading-zero : (n : ℕ) (r : Reading ℤ) → None ≡ placed n r → value_in r ≡ pos 0
 reading-zero n none e = refl
 reading-zero n (some p) e = clash refl (ap is-value (sym e))
 
-pub number-zero : (word : List ℕ) (r : Number) → r ≡ number_from word 0 → r ≡ Bad → pos 0 ≡ argument_value word
+pub number-zero : (word : List ℕ) (r : Option (ℤ × ℕ)) → r ≡ number_from word 0 → r ≡ None → pos 0 ≡ argument_value word
 unfolding number_from argument_value
 number-zero word r e f = sym (reading-zero (length word) (number word) (sym f ∙ e))
 

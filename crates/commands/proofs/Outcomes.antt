@@ -6,9 +6,11 @@ use Prim.Native.Nat.{ℕ, zero, suc, ◌+◌, ◌≤◌}
 use native.Mathlib.Omega.{arith}
 use lib.Dec.{leb, ltb}
 use lib.ListN.{length, take}
-use borrow.Author.Tests.{lt-ltb}
+use borrow.Author.Tests.{lt-leb}
+use Rattle.std.specs.Prelude.{Option, Some, None}
+use Rattle.std.specs.Option.{is_none}
 use Rattle.lists.specs.inner.Stores.{Put}
-use Rattle.plan.specs.Causes.{on_cause}
+use Rattle.plan.specs.Causes.{refusal, on_cause}
 use Rattle.printing.specs.Lines.{refused_line}
 use Rattle.printing.proofs.Puts.{put_same}
 use Rattle.reporting.specs.declared.Printout.{Printout}
@@ -18,14 +20,16 @@ use Rattle.reporting.proofs.Texts.{never-longer}
 use Rattle.text.specs.Reader.{text_shape, text_cells}
 use Rattle.outcomes.specs.declared.Reply.{Reply}
 use Rattle.outcomes.specs.Texts.{text_part}
-use Rattle.outcomes.specs.Outcomes.{Told, error_line, cause_text, done, refused, misused}
+use Rattle.outcomes.specs.Outcomes.{Told, error_line, cause_text, done, refused, misused, done_reply, refused_reply, misused_reply}
 use Rattle.outcomes.specs.inner.Rooms.{Room}
 use Rattle.outcomes.proofs.Texts.{part-few}
 use Rattle.outcomes.proofs.Outcomes.{told-done, told-misused, told-refused, told_same}
 use Rattle.asking.specs.Answers.{apart_of}
-use Rattle.commands.specs.Commands.{most_commands, usage_lines, usage, help_texts, help_text, version_line}
+use Rattle.commands.specs.declared.command.Command.{Command}
+use Rattle.commands.specs.Commands.{most_commands, number_of_command, number_of_named, usage_lines, usage, help_texts, help_text, version_line}
 use Rattle.commands.specs.Arguments.{places_from}
 use Rattle.commands.specs.Outcomes.{report_outcome, help_outcome}
+use Rattle.commands.proofs.Calls.{number-below}
 use Rattle.commands.proofs.Places.{places-first}
 
 -- ---- what is wanted
@@ -33,26 +37,26 @@ usage-few : length usage_lines + 10 ≤ 65536
 unfolding usage_lines
 usage-few = omega arith
 
-pub told-wanted : (out err errAfter lines : List ℕ) (command n : ℕ) → Room out err → lines ≡ usage_lines
-    → Put err 0 (error_line (text_part 10 command lines)) errAfter n → Told (misused (usage command)) out err out errAfter (record { status = 2; out = 0; err = n })
-told-wanted out err errAfter lines command n r e p =
-    told-misused out err (usage command) errAfter n (omega (arith, r.words, part-few 10 command usage_lines, usage-few)) (rw e at p)
+pub told-wanted : (out err errAfter lines : List ℕ) (command text n : ℕ) → Room out err → lines ≡ usage_lines → text ≡ command
+    → Put err 0 (error_line (text_part 10 text lines)) errAfter n → Told (misused (usage command)) out err out errAfter (misused_reply n)
+told-wanted out err errAfter lines command text n r e f p =
+    told-misused out err (usage command) errAfter n (omega (arith, r.words, part-few 10 command usage_lines, usage-few)) (rw (e, f) at p)
 
 -- ---- report
 module _ (t out err out_after : List ℕ) (r : Printout) (room : Room out err) (p : Printed (report_cause t) (report_of t) out out_after r) where
-  pub report-done : r.cause ≡ 0 → Told (report_outcome t) out err out_after err (record { status = 0; out = r.size; err = 0 })
+  pub report-done : refusal r.told ≡ 0 → Told (report_outcome t) out err out_after err (done_reply r.size)
   unfolding report_outcome
   report-done e =
       told_same (done (report_of t)) out err out_after err _ _ (told-done out err (report_of t) out_after r.size (omega (arith, room.answer, never-longer t)) p.put)
       (ap (λ (n : ℕ). on_cause n (done (report_of t)) refused) (sym p.number ∙ e))
 
-  pub report-refused : (errAfter : List ℕ) (n : ℕ) → (r.cause ≡ 0 → ⊥) → Put err 0 (error_line (cause_text r.cause)) errAfter n
-      → Told (report_outcome t) out err out_after errAfter (record { status = 1; out = r.size; err = n })
+  pub report-refused : (errAfter : List ℕ) (n : ℕ) → (refusal r.told ≡ 0 → ⊥) → Put err 0 (error_line (cause_text (refusal r.told))) errAfter n
+      → Told (report_outcome t) out err out_after errAfter (refused_reply r.size n)
   unfolding report_outcome report_of
-  report-refused errAfter n h q = go r.cause h p.number p.put q
+  report-refused errAfter n h q = go (refusal r.told) h p.number p.put q
     where
       go : (cause : ℕ) → (cause ≡ 0 → ⊥) → cause ≡ report_cause t → Put out 0 (report_of t) out_after r.size → Put err 0 (error_line (cause_text cause)) errAfter n
-          → Told (report_outcome t) out err out_after errAfter (record { status = 1; out = r.size; err = n })
+          → Told (report_outcome t) out err out_after errAfter (refused_reply r.size n)
       go zero h' e p' q' = absurd (h' refl)
       go (suc cause) h' e p' q' =
           let f : report_of t ≡ refused_line (suc cause) = ap (λ (k : ℕ). on_cause k (table_report (text_shape t) (text_cells t)) refused_line) (sym e) in
@@ -61,12 +65,16 @@ module _ (t out err out_after : List ℕ) (r : Printout) (room : Room out err) (
           (ap (λ (k : ℕ). on_cause k (done (report_of t)) refused) (sym e))
 
 -- ---- help and version
-pub unknown-none : (names command : ℕ) → names ≡ 0 → false ≡ (ltb 0 names && leb most_commands command)
-unknown-none names command h = rw h refl
+none-last : (command : Option Command) → is_none command ≡ leb most_commands (number_of_named command)
+none-last None = refl
+none-last (Some c) = sym (lt-leb most_commands (number_of_command c) (number-below c))
 
-pub unknown-named : (names command : ℕ) → (names ≡ 0 → ⊥) → leb most_commands command ≡ (ltb 0 names && leb most_commands command)
-unknown-named zero command h = absurd (h refl)
-unknown-named (suc names) command h = rw (lt-ltb 0 (suc names) (omega arith)) refl
+pub unknown-none : (names : ℕ) (b : Bool) → ltb 0 names ≡ false → ltb 0 names ≡ (ltb 0 names && b)
+unknown-none names b h = rw h
+
+pub unknown-named : (names : ℕ) (command : Option Command) (v : Bool) → ltb 0 names ≡ true → v ≡ is_none command
+    → v ≡ (ltb 0 names && leb most_commands (number_of_named command))
+unknown-named names command v h e = rw h (e ∙ none-last command)
 
 help-few : length help_texts ≤ 65536
 unfolding help_texts
@@ -78,15 +86,15 @@ module _ (names command : ℕ) (out err : List ℕ) (v : Bool) (e : v ≡ (ltb 0
   unfolding help_outcome
   help-unknown out_after errAfter r h t = rw (← e, h) t
 
-  pub help-done : (out_after texts : List ℕ) (n : ℕ) → v ≡ false → Room out err → texts ≡ help_texts → Put out 0 (text_part 0 command texts) out_after n
-      → Told (help_outcome names command) out err out_after err (record { status = 0; out = n; err = 0 })
+  pub help-done : (out_after texts : List ℕ) (text n : ℕ) → v ≡ false → Room out err → texts ≡ help_texts → text ≡ command → Put out 0 (text_part 0 text texts) out_after n
+      → Told (help_outcome names command) out err out_after err (done_reply n)
   unfolding help_outcome
-  help-done out_after texts n h room f p =
+  help-done out_after texts text n h room f g p =
       rw (← e, h)
-      (told-done out err (help_text command) out_after n (omega (arith, room.answer, part-few 0 command help_texts, help-few)) (rw f at p))
+      (told-done out err (help_text command) out_after n (omega (arith, room.answer, part-few 0 command help_texts, help-few)) (rw (f, g) at p))
 
 pub version-done : (out err out_after line : List ℕ) (n : ℕ) → Room out err → line ≡ version_line → Put out 0 line out_after n
-    → Told (done version_line) out err out_after err (record { status = 0; out = n; err = 0 })
+    → Told (done version_line) out err out_after err (done_reply n)
 unfolding version_line
 version-done out err out_after line n room e p = told-done out err version_line out_after n (omega (arith, room.answer)) (rw e at p)
 

@@ -14,11 +14,6 @@ module _ (args : List ℕ) (n : ℕ) where
     pub few : i ≤ n
     pub rest : take i out ++ places_from args (i + 1) (n - i) ≡ places_from args 1 n
 
-  pub placed-none : (out : List ℕ) → length out ≡ n → Placed out 0
-  placed-none out h =
-      let k : n - 0 ≡ n = omega arith in
-      record { long = h; few = omega arith; rest = ap (places_from args 1) k }
-
   module _ (out : List ℕ) (i : ℕ) (p : Placed out i) where
     pub placed-more : i < length out → (x : ℕ) → x ≡ natural_of (argument_value (argument (i + 1) args)) → Placed (set out i x) (i + 1)
     unfolding places_from

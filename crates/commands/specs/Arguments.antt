@@ -6,7 +6,7 @@ use Rattle.geometry.specs.declared.Rect.{Rect}
 use Rattle.decimal.specs.Reading.{Reading, number}
 use Rattle.outcomes.specs.Texts.{ascii, text_part}
 use Rattle.commands.specs.declared.Call.{Call}
-use Rattle.commands.specs.Commands.{most_commands, command_words, limit}
+use Rattle.commands.specs.Commands.{most_commands, number_of_named, command_words, limit}
 
 -- how many arguments a byte ends
 abbrev pub ended : (byte : ℕ) → ℕ
@@ -107,8 +107,18 @@ fewer n m = cond (leb n m) n m
 unfoldable pub numbers_in : (command : ℕ) → List ℕ → ℕ
 numbers_in command args = leading_numbers (limit_or command 5) args 1 (fewer (limit_or command 1) (looked (argument_count args)))
 
+-- what the arguments ask for: the number of the command, how many numbers stand behind its word, and how many names behind these
+pub record CallValues : Type 0 where
+  pub command : ℕ
+  pub numbers : ℕ
+  pub names : ℕ
+
+-- a call, its command by its number
+abbrev pub call_told : Call → CallValues
+call_told c = record { command = number_of_named c.command; numbers = c.numbers; names = c.names }
+
 -- what the arguments ask for
-unfoldable pub command_call : List ℕ → Call
+unfoldable pub command_call : List ℕ → CallValues
 command_call args =
     let command = command_number (argument 0 args) in
     let n = numbers_in command args in
@@ -119,7 +129,7 @@ abbrev pub is_between : (low n high : ℕ) → Bool
 is_between low n high = leb low n && leb n high
 
 -- the command is one, and takes as many numbers and names as there are
-unfoldable pub takes_all : Call → Bool
+unfoldable pub takes_all : CallValues → Bool
 takes_all c =
     let n = c.command in
     ltb n most_commands && (is_between (limit n 0) c.numbers (limit n 1) && is_between (limit n 2) c.names (limit n 3))

@@ -1,10 +1,31 @@
 -- The commands, by number from 0: their words, what they take, and what is said of them.
-use Rattle.std.specs.Prelude.{List, [], ◌∷◌, ◌++◌, ℕ, ◌+◌, ◌*◌, get_or}
+use Rattle.std.specs.Prelude.{List, [], ◌∷◌, ◌++◌, ℕ, ◌+◌, ◌*◌, get_or, Option, Some, None}
 use Rattle.outcomes.specs.Texts.{ascii, text_part}
+use Rattle.commands.specs.declared.command.Command.{Command}
+use Rattle.commands.specs.declared.command.Command.TheVariants as command
 
 -- how many there are
 abbrev pub most_commands : ℕ
 most_commands = 11
+
+-- the number of each
+abbrev pub number_of_command : Command → ℕ
+number_of_command command.Report = 0
+number_of_command command.Check = 1
+number_of_command command.Pairs = 2
+number_of_command command.Nearest = 3
+number_of_command command.Apart = 4
+number_of_command command.Classes = 5
+number_of_command command.Hours = 6
+number_of_command command.Cover = 7
+number_of_command command.Picture = 8
+number_of_command command.Help = 9
+number_of_command command.Version = 10
+
+-- the number of what a word names: the number behind the last where it is no command's
+abbrev pub number_of_named : Option Command → ℕ
+number_of_named None = most_commands
+number_of_named (Some c) = number_of_command c
 
 -- the word of each, ended by byte 0
 unfoldable pub command_words : List ℕ

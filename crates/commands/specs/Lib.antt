@@ -3,3 +3,4 @@ pub mod Arguments
 pub mod Outcomes
 pub mod Cases
 pub mod Answered
+pub mod inner

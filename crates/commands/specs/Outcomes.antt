@@ -9,9 +9,8 @@ use Rattle.listing.specs.Classes.{classes_said}
 use Rattle.listing.specs.Hours.{hours_said}
 use Rattle.listing.specs.Cover.{cover_said}
 use Rattle.picture.specs.Pictures.{picture_said}
-use Rattle.commands.specs.declared.Call.{Call}
 use Rattle.commands.specs.Commands.{most_commands, usage, help_text, version_line}
-use Rattle.commands.specs.Arguments.{argument, box_of, layer_in, places_from, given_in, command_number, command_call, takes_all}
+use Rattle.commands.specs.Arguments.{CallValues, argument, box_of, layer_in, places_from, given_in, command_number, command_call, takes_all}
 
 -- `report`: what the report program prints for the text
 unfoldable pub report_outcome : (text : List ℕ) → Outcome
@@ -22,7 +21,7 @@ unfoldable pub help_outcome : (names command : ℕ) → Outcome
 help_outcome names command = cond (ltb 0 names && leb most_commands command) (misused (usage most_commands)) (done (help_text command))
 
 -- what each command says, in the order of their numbers
-abbrev pub answers : (call : Call) (arguments text second : List ℕ) → List Outcome
+abbrev pub answers : (call : CallValues) (arguments text second : List ℕ) → List Outcome
 answers call arguments text second =
     report_outcome text
     ∷ check_of text
@@ -38,7 +37,7 @@ answers call arguments text second =
     ∷ []
 
 -- what is wanted
-abbrev pub wanted : Call → Outcome
+abbrev pub wanted : CallValues → Outcome
 wanted call = misused (usage call.command)
 
 -- what the program says: wrong arguments are told what is wanted

@@ -2,10 +2,14 @@
 // `commands_code`.
 #![tactic(auto)]
 
-// What the arguments ask for: the command's number, how many numbers stand behind its word, and how many names behind these.
+mod command;
+
+pub use command::Command;
+
+// What the arguments ask for: the command, if their first is the word of one, how many numbers stand behind it, and how many names behind these.
 #[derive(Clone, Copy)]
 pub struct Call {
-    pub command: u32,
+    pub command: Option<Command>,
     pub numbers: usize,
     pub names: usize,
 }

@@ -2,30 +2,26 @@
 ghost use Rattle.std.specs.Prelude.{◌≡◌, ◌&&◌, ◌≤◌, leb, ltb};
 ghost use Rattle.outcomes.specs.Outcomes.{Told, misused, done};
 ghost use Rattle.outcomes.specs.inner.Rooms.{Room};
-ghost use Rattle.commands.specs.Commands.{most_commands, usage, version_line};
+ghost use Rattle.commands.specs.Commands.{most_commands, number_of_named, usage, version_line};
 ghost use Rattle.asking.specs.Answers.{apart_of};
 ghost use Rattle.commands.specs.Arguments.{places_from};
 ghost use Rattle.commands.specs.Outcomes.{report_outcome, help_outcome};
 
-use arguments_code::{MOST_COMMANDS, fill_places, help_texts, usage_lines, version_line};
+use arguments_code::{fill_places, help_texts, text_number, usage_lines, version_line};
 use asking_code::apart;
+use commands::Command;
 use outcomes::Reply;
 use outcomes_code::{put_cause, put_error_part, put_part};
 use reporting_code::report_on;
 use speller::put_word;
 
 // What is wanted of a command, or of any.
-pub fn put_wanted(command: u32, out: &mut [u8], err: &mut [u8]) -> Reply
+pub fn put_wanted(command: Option<Command>, out: &mut [u8], err: &mut [u8]) -> Reply
     requires { Room out.old err.old }
-    ensures { Told (misused (usage command)) out.old err.old out.new err.new result }
+    ensures { Told (misused (usage (number_of_named command))) out.old err.old out.new err.new result }
 {
     let lines = usage_lines();
-    let n = put_error_part(err, &lines, command, b'\n');
-    Reply {
-        status: 2,
-        out: 0,
-        err: n,
-    }
+    Reply::misused(put_error_part(err, &lines, text_number(command), b'\n'))
 }
 
 // `report`: the report on a text, and where it is refused what its cause means.
@@ -35,46 +31,29 @@ pub fn put_report(text: &[u8], out: &mut [u8], err: &mut [u8]) -> Reply
 {
     let printed = report_on(text, out);
     let m = printed.size;
-    if printed.cause == 0 {
-        return Reply {
-            status: 0,
-            out: m,
-            err: 0,
-        };
-    }
-    let n = put_cause(err, printed.cause);
-    Reply {
-        status: 1,
-        out: m,
-        err: n,
+    match printed.told {
+        Ok(()) => Reply::done(m),
+        Err(cause) => Reply::refused(m, put_cause(err, cause)),
     }
 }
 
 // Whether a name is given that is no command's.
-fn is_unknown(names: usize, command: u32) -> bool
-    ensures { result ≡ (ltb 0 names && leb most_commands command) }
+fn is_unknown(names: usize, command: Option<Command>) -> bool
+    ensures { result ≡ (ltb 0 names && leb most_commands (number_of_named command)) }
 {
-    if names == 0 {
-        return false;
-    }
-    MOST_COMMANDS <= command
+    0 < names && command.is_none()
 }
 
 // `help`: what a command does, or all of them.
-pub fn put_help(names: usize, command: u32, out: &mut [u8], err: &mut [u8]) -> Reply
+pub fn put_help(names: usize, command: Option<Command>, out: &mut [u8], err: &mut [u8]) -> Reply
     requires { Room out.old err.old }
-    ensures { Told (help_outcome names command) out.old err.old out.new err.new result }
+    ensures { Told (help_outcome names (number_of_named command)) out.old err.old out.new err.new result }
 {
     if is_unknown(names, command) {
-        return put_wanted(MOST_COMMANDS, out, err);
+        return put_wanted(None, out, err);
     }
     let texts = help_texts();
-    let n = put_part(out, 0, &texts, command, 0);
-    Reply {
-        status: 0,
-        out: n,
-        err: 0,
-    }
+    Reply::done(put_part(out, 0, &texts, text_number(command), 0))
 }
 
 // `apart`: the places are the first n numbers.
@@ -94,10 +73,5 @@ pub fn put_version(out: &mut [u8], err: &mut [u8]) -> Reply
     ensures { Told (done version_line) out.old err.old out.new err.new result }
 {
     let line = version_line();
-    let n = put_word(out, 0, &line);
-    Reply {
-        status: 0,
-        out: n,
-        err: 0,
-    }
+    Reply::done(put_word(out, 0, &line))
 }

@@ -3,20 +3,21 @@
 
 mod answers;
 
-ghost use Rattle.std.specs.Prelude.{◌≤◌, ◌<◌, get_or};
+ghost use Rattle.std.specs.Prelude.{◌≡◌, ◌≤◌, get_or, Some};
 ghost use Rattle.outcomes.specs.Outcomes.{Told};
 ghost use Rattle.outcomes.specs.inner.Rooms.{Room};
 ghost use Rattle.asking_runs_code.specs.Listing.{Lent};
-ghost use Rattle.commands.specs.Commands.{most_commands};
+ghost use Rattle.commands.specs.Commands.{number_of_command};
+ghost use Rattle.commands.specs.Arguments.{call_told};
 ghost use Rattle.commands.specs.Outcomes.{answers, wanted, command_of};
 
 use answers::{put_apart, put_help, put_report, put_version, put_wanted};
-use arguments_code::{box_of, call_of, given_stops, is_fit, layer_of, named_command};
+use arguments_code::{box_of, call_of, fitting_command, given_stops, layer_of, named_command};
 pub use arguments_code::{second_source, text_source};
 use asking_code::nearest;
 use asking_runs_code::pairs;
 use checking_code::check;
-use commands::Call;
+use commands::{Call, Command};
 use listing_code::cover;
 use listing_runs_code::{classes, hours};
 use outcomes::Reply;
@@ -55,14 +56,17 @@ fn command_on(
         out.old err.old out.new err.new result }
 {
     let call = call_of(arguments);
-    if !is_fit(call) {
-        return put_wanted(call.command, out, err);
+    match fitting_command(call) {
+        Some(command) => answer(
+            command, call, arguments, text, second, table, work, out, err,
+        ),
+        None => put_wanted(call.command, out, err),
     }
-    answer(call, arguments, text, second, table, work, out, err)
 }
 
 // What the command of a call that fits says.
 fn answer(
+    command: Command,
     call: Call,
     arguments: &[u8],
     text: &[u8],
@@ -72,42 +76,22 @@ fn answer(
     out: &mut [u8],
     err: &mut [u8],
 ) -> Reply
-    requires { Room out.old err.old × (call.command < most_commands) × (call.numbers ≤ 7) × Lent table.old work.old }
-    ensures { Told (get_or (answers call arguments.now text.now second.now) call.command (wanted call))
+    requires { Room out.old err.old × (call.command ≡ Some command) × (call.numbers ≤ 7) × Lent table.old work.old }
+    ensures { Told (get_or (answers (call_told call) arguments.now text.now second.now) (number_of_command command) (wanted (call_told call)))
         out.old err.old out.new err.new result }
 {
-    let c = call.command;
     let n = call.numbers;
-    match c {
-        0 => put_report(text, out, err),
-        1 => check(text, out, err),
-        2 => pairs(text, layer_of(arguments, n), table, work, out, err),
-        3 => nearest(text, box_of(arguments), out, err),
-        4 => put_apart(arguments, n, text, out, err),
-        _ => answer_more(call, arguments, text, second, out, err),
-    }
-}
-
-// The same, of the commands behind these.
-fn answer_more(
-    call: Call,
-    arguments: &[u8],
-    text: &[u8],
-    second: &[u8],
-    out: &mut [u8],
-    err: &mut [u8],
-) -> Reply
-    requires { Room out.old err.old × (5 ≤ call.command) × (call.command < most_commands) }
-    ensures { Told (get_or (answers call arguments.now text.now second.now) call.command (wanted call))
-        out.old err.old out.new err.new result }
-{
-    let c = call.command;
-    match c {
-        5 => classes(text, out, err),
-        6 => hours(text, second, out, err),
-        7 => cover(text, box_of(arguments), given_stops(arguments), out, err),
-        8 => picture(text, out, err),
-        9 => put_help(call.names, named_command(arguments, 1), out, err),
-        _ => put_version(out, err),
+    match command {
+        Command::Report => put_report(text, out, err),
+        Command::Check => check(text, out, err),
+        Command::Pairs => pairs(text, layer_of(arguments, n), table, work, out, err),
+        Command::Nearest => nearest(text, box_of(arguments), out, err),
+        Command::Apart => put_apart(arguments, n, text, out, err),
+        Command::Classes => classes(text, out, err),
+        Command::Hours => hours(text, second, out, err),
+        Command::Cover => cover(text, box_of(arguments), given_stops(arguments), out, err),
+        Command::Picture => picture(text, out, err),
+        Command::Help => put_help(call.names, named_command(arguments, 1), out, err),
+        Command::Version => put_version(out, err),
     }
 }

@@ -15,7 +15,7 @@ use Rattle.plan.proofs.Plan.{or-else-zero, checked}
 use Rattle.join.specs.Table.{table_of}
 use Rattle.crossings.specs.Crossings.{class_in}
 use Rattle.crossings.specs.ClassCall.{crossing_cause, class_call, class_values, count_of, class_counts}
-use Rattle.crossings.specs.declared.ClassAnswer.{ClassAnswer}
+use Rattle.std.specs.Prelude.{Option, Result}
 use Rattle.crossings.proofs.Answers.{cause-sound}
 use Rattle.crossings.proofs.Theorems as Class
 use Rattle.crossing_report.specs.CrossingCall.{crossing_run_cause, crossing_call, crossing_table}
@@ -29,7 +29,7 @@ module _ (s : Shape) (cells : List ℤ) (typed : Typed s) (passed : crossing_cau
   called : All (λ row. (class_in (layers s cells) row ≡ (class_values (class_call s cells row)).class) × (class_in (layers s cells) row < 17)) (table_of (sizes_of s) (grown s cells))
   called = all-of-mem (table_of (sizes_of s) (grown s cells)) (λ row m.
       let h = Class.row-class s cells typed passed row m in
-      (sym (ap (λ (a : ClassAnswer). (class_values a).class) h.0), omega (arith, h.1.most, h.2, (checked s cells (cause-sound s cells typed passed)).high)))
+      (sym (ap (λ (a : Result (Option ℕ) ℕ). (class_values a).class) h.0), omega (arith, h.1.most, h.2, (checked s cells (cause-sound s cells typed passed)).high)))
 
   counts : Counts s cells (class_counts (layers s cells) (table_of (sizes_of s) (grown s cells)))
   counts = record {
@@ -55,4 +55,4 @@ module _ (s : Shape) (cells : List ℤ) (order table : List ℕ) (work : ℕ) (t
   }
 
 pub tallies : Tallies
-tallies = record { reports = crossing-reports }
+tallies = record { reports = crossing-reports; answer = λ r c. (refl, refl) }

@@ -6,7 +6,8 @@ use Prim.Native.Nat.{ℕ, zero, suc, ◌+◌, ◌-◌, ◌≤◌, ◌<◌}
 use native.Mathlib.Omega.{arith}
 use lib.IntN.{ℤ}
 use lib.Dec.{eqb}
-use lib.ListN.{length, get_or, set, take, drop, replicate, length-set, length-take, get_or-replicate}
+use lib.ListN.{length, get_or, set, take, drop, replicate, length-set, get_or-replicate}
+use Rattle.std.proofs.Math.Seq.{take-length}
 use lib.Seq.{get_or-set_same, get_or-set_other, ext_get_or}
 use borrow.Author.Tests.{eq-eqb, eqb-true}
 use Rattle.lists.proofs.Tests.{clash}
@@ -32,20 +33,23 @@ class-small ns cells row a b e =
     omega (arith, (is-class _ (row-shares ns cells row e a)).most, rects-long ns cells row e)
 
 -- ---- the loop
-module _ (sizes : List ℕ) (k : ℕ) (cells : List ℤ) (table : List ℕ) (n : ℕ) where
+module _ (ns : List ℕ) (cells : List ℤ) (table : List ℕ) (n : ℕ) where
   abbrev ours : List Layer
-  ours = layers_of (take k sizes) cells
+  ours = layers_of ns cells
+
+  abbrev k : ℕ
+  k = length ns
 
   -- the first i rows are counted; with those that are left, which stand from `start` on, the counts are those of all
   pub record Counting (counts : List ℕ) (start i : ℕ) : Type 0 where
-    pub ahead : Ahead sizes k cells table n start i
+    pub ahead : Ahead ns k cells table n start i
     pub long : length counts ≡ 17
     pub same : (c : ℕ) → c < 17 → get_or counts c 0 + count_of ours (rows_in k (n - i) (drop start table)) c ≡ count_of ours (rows_in k n table) c
 
-  pub counting-none : TableRows sizes k cells table n → Counting (replicate 17 0) 0 0
+  pub counting-none : TableRows ns k cells table n → Counting (replicate 17 0) 0 0
   counting-none h =
       let z : n - 0 ≡ n = omega arith in
-      record { ahead = none_read sizes k cells table n h; long = refl; same = λ c l. rw z (omega (arith, get_or-replicate {A = ℕ} 17 c 0 0 l)) }
+      record { ahead = none_read ns k cells table n h; long = refl; same = λ c l. rw z (omega (arith, get_or-replicate {A = ℕ} 17 c 0 0 l)) }
 
   pub counting-all : (counts : List ℕ) (start i : ℕ) → Counting counts start i → n ≤ i → counts ≡ class_counts ours (rows_in k n table)
   counting-all counts start i a h =
@@ -55,17 +59,16 @@ module _ (sizes : List ℕ) (k : ℕ) (cells : List ℤ) (table : List ℕ) (n :
 
   module _ (counts : List ℕ) (start i : ℕ) (a : Counting counts start i) (h : i < n) (row : List ℕ) (e : row ≡ take k (drop start table)) where
     pub row_is : is_row ours row ≡ true
-    row_is = rw e (next-is-row sizes k cells table n start i a.ahead h)
+    row_is = rw e (rw (take-length ns) at (next-is-row ns k cells table n start i a.ahead h))
 
     module _ (c : ℕ) (q : c ≡ class_in ours row) where
-      pub class-fits : TableRows sizes k cells table n → 3 ≤ k → c < 17
-      class-fits t l =
-          omega (arith, q, length-take k sizes, t.inside, t.framed.few, class-small (take k sizes) cells row (omega (arith, length-take k sizes, t.inside)) t.framed.few row_is)
+      pub class-fits : 3 ≤ k → k ≤ 6 → c < 17
+      class-fits l m = omega (arith, q, class-small ns cells row l m row_is)
 
       -- what is left, without this row
       left : (d : ℕ) → count_of ours (rows_in k (n - i) (drop start table)) d ≡ one (eqb c d) + count_of ours (rows_in k (n - (i + 1)) (drop (start + k) table)) d
       left d =
-          ap (λ (rows : List (List ℕ)). count_of ours rows d) (rows_split sizes k cells table n start i h)
+          ap (λ (rows : List (List ℕ)). count_of ours rows d) (rows_split ns k cells table n start i h)
           ∙ count-more ours (take k (drop start table)) (rows_in k (n - (i + 1)) (drop (start + k) table)) d
           ∙ ap (λ (m : ℕ). one (eqb m d) + count_of ours (rows_in k (n - (i + 1)) (drop (start + k) table)) d) (ap (class_in ours) (sym e) ∙ sym q)
 
@@ -76,7 +79,7 @@ module _ (sizes : List ℕ) (k : ℕ) (cells : List ℤ) (table : List ℕ) (n :
 
         pub counting_more : Counting (set counts c (get_or counts c 0 + 1)) (start + k) (i + 1)
         counting_more = record {
-          ahead = one-read sizes k cells table n start i a.ahead h;
+          ahead = one-read ns k cells table n start i a.ahead h;
           long = length-set counts c (get_or counts c 0 + 1) ∙ a.long;
           same = λ d m. go d m (eqb c d) refl;
         }

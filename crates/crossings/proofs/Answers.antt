@@ -1,5 +1,5 @@
 -- What the checks and the class call answer, in each of their cases.
-use mathlib.Core.Path.{◌≡◌, refl}
+use mathlib.Core.Path.{◌≡◌, refl, ap}
 use mathlib.Core.List.{List}
 use mathlib.Core.Bool.{Bool, true, false}
 use Prim.Native.Nat.{ℕ, zero, suc, ◌≤◌, ◌<◌}
@@ -11,11 +11,9 @@ use Rattle.plan.specs.Causes.{unless, ◌or_else◌}
 use Rattle.plan.specs.Plan.{Layer, layers_of, sizes_of, layers, plan_cause, Typed, Sound}
 use Rattle.plan.proofs.Plan.{or-else-zero, unless-zero}
 use Rattle.rows.specs.declared.Ground.{Ground}
-use Rattle.rows.specs.declared.Sharing.TheVariants.{Nothing, Shared}
 use Rattle.rows.specs.inner.Grounds.{ground_of}
 use Rattle.rows.proofs.Answers.{ground-none, ground-some}
-use Rattle.crossings.specs.declared.ClassAnswer.{ClassAnswer}
-use Rattle.crossings.specs.declared.ClassAnswer.TheVariants.{Refused, NoRow, Class}
+use Rattle.std.specs.Prelude.{Option, Some, None, Ok, Err}
 use Rattle.crossings.specs.Crossings.{class_in}
 use Rattle.crossings.specs.ClassCall.{segmented, unwidened, crossing_cause, class_call}
 use Rattle.crossings.specs.inner.Ends.{class_told}
@@ -52,20 +50,20 @@ cause-three s cells e = leb-true 3 s.k (unless-zero (leb 3 s.k) 14 (or-else-zero
 
 -- ---- the answer
 module _ (ls : List Layer) (row : List ℕ) where
-  pub told_none : Nothing ≡ ground_of ls row → NoRow ≡ class_told ls row
+  pub told_none : None ≡ ground_of ls row → None ≡ class_told ls row
   unfolding class_told
   told_none e = rw (ground-none ls row e)
 
-  pub told-class : (g : Ground) → Shared g ≡ ground_of ls row → (c : ℕ) → c ≡ class_in ls row → Class c ≡ class_told ls row
+  pub told-class : (g : Ground) → Some g ≡ ground_of ls row → (c : ℕ) → c ≡ class_in ls row → Some c ≡ class_told ls row
   unfolding class_told
   told-class g e c q = rw ((ground-some ls row g e).0, q)
 
 module _ (s : Shape) (cells : List ℤ) (row : List ℕ) where
-  pub class-refused : (n : ℕ) → n ≡ crossing_cause s cells → (n ≡ 0 → ⊥) → Refused n ≡ class_call s cells row
+  pub class-refused : (n : ℕ) → n ≡ crossing_cause s cells → (n ≡ 0 → ⊥) → Err n ≡ class_call s cells row
   unfolding class_call
   class-refused zero e h = absurd (h refl)
   class-refused (suc n) e h = rw (← e)
 
-  pub class-accepted : (r : ClassAnswer) → crossing_cause s cells ≡ 0 → r ≡ class_told (layers s cells) row → r ≡ class_call s cells row
+  pub class-accepted : (r : Option ℕ) → crossing_cause s cells ≡ 0 → r ≡ class_told (layers s cells) row → Ok r ≡ class_call s cells row
   unfolding class_call class_told
-  class-accepted r h e = rw h e
+  class-accepted r h e = rw h (ap Ok e)

@@ -4,15 +4,16 @@ use mathlib.Core.List.{List, [], ◌∷◌}
 use mathlib.Core.Bool.{Bool, true, false, ◌&&◌}
 use Prim.Native.Nat.{ℕ, zero, suc, ◌+◌, ◌-◌, ◌*◌, ◌≤◌, ◌<◌}
 use native.Mathlib.Omega.{arith}
+use borrow.Author.Tests.{eqb-true, eqb-false}
+use lib.Dec.{eqb}
 use lib.IntN.{ℤ}
 use lib.ListN.{length, get_or, take, drop, take-append-drop}
-use lib.Seq.{length-take-le, get_or-take}
 use mir.Syntax.{w32}
 use mir.Val.{SFits, to_z, of_z}
 use mir.Facts.{to_z-of_z}
 use Rattle.lists.specs.Lists.{sum}
 use Rattle.lists.proofs.Numbers.{sum-++}
-use Rattle.lists.proofs.Tests.{both}
+use Rattle.lists.proofs.Tests.{both, never_true}
 use Rattle.geometry.specs.declared.Rect.{Rect}
 use Rattle.geometry.specs.Rectangles.{nonempty}
 use Rattle.plan.specs.Plan.{Layer, rect_at, layers_of}
@@ -21,6 +22,7 @@ use Rattle.plan.specs.Spots.{layer_at, rect_of}
 use Rattle.plan.proofs.Spots.{number_small, spot-number, rect-number, size_of, layers-long, layer-at}
 use Rattle.join.specs.Join.{rects, common_of, same_z, Within, no_layer, ◌below◌}
 use Rattle.join.specs.Table.{sizes_in}
+use Rattle.join.proofs.Join.{same-yes, same_true}
 use Rattle.join.proofs.Table.{within-long}
 use Rattle.rows.specs.RowCall.{fits, is_row}
 use Rattle.rows.specs.inner.Layers.{Reached}
@@ -34,8 +36,12 @@ use Rattle.crossings.proofs.Classes.{Shares}
 pub read-covers : (r : Rect) {x y : ℤ} {t : Bool} → SFits w32 x → SFits w32 y → t ≡ covers r (to_z w32 (of_z w32 x)) (to_z w32 (of_z w32 y)) → t ≡ covers r x y
 read-covers r f g e = e ∙ ap₂ (covers r) (to_z-of_z f) (to_z-of_z g)
 
-pub read_same : {x y : ℤ} {t : Bool} → SFits w32 x → SFits w32 y → t ≡ same_z (to_z w32 (of_z w32 x)) (to_z w32 (of_z w32 y)) → t ≡ same_z x y
-read_same f g e = e ∙ ap₂ same_z (to_z-of_z f) (to_z-of_z g)
+pub read_same : {x y : ℤ} → SFits w32 x → SFits w32 y → eqb (of_z w32 x) (of_z w32 y) ≡ same_z x y
+read_same {x} {y} f g = go (eqb (of_z w32 x) (of_z w32 y)) refl
+  where
+    go : (t : Bool) → eqb (of_z w32 x) (of_z w32 y) ≡ t → t ≡ same_z x y
+    go true e = sym (same-yes x y (sym (to_z-of_z f) ∙ ap (to_z w32) (eqb-true _ _ e) ∙ to_z-of_z g))
+    go false e = sym (never_true (same_z x y) (λ h. eqb-false _ _ e (ap (of_z w32) (same_true x y h))))
 
 -- ---- how many rectangles lie before a layer
 pub start_small : (ns : List ℕ) (i : ℕ) → sum (take i ns) + get_or ns i 0 ≤ sum ns
@@ -62,31 +68,16 @@ pub layer-lies : (level : Bool) (ns : List ℕ) (cells : List ℤ) (j : ℕ) →
 layer-lies level ns cells j = rw (size_of ns cells j) (lie-same level (get_or ns j 0) _ _ (rect-at-number ns cells j))
 
 -- ---- the last two layers
-module _ (sizes : List ℕ) (k : ℕ) (cells : List ℤ) (l : k ≤ length sizes) (f : Framed (take k sizes) cells) where
-  many : length (take k sizes) ≡ k
-  many = length-take-le k sizes l
+module _ (ns : List ℕ) (cells : List ℤ) (f : Framed ns cells) where
+  pub layer-inside : (j a : ℕ) → j < length ns → a ≡ sum (take j ns) → 4 * a + 4 * get_or ns j 0 ≤ length cells
+  layer-inside j a h e = omega (arith, start_small ns j, e, f.whole)
 
-  pub two : 2 ≤ k
-  two = omega (arith, f.some, many)
-
-  pub layer-inside : (j a : ℕ) → j < k → a ≡ sum (take j (take k sizes)) → 4 * a + 4 * get_or sizes j 0 ≤ length cells
-  layer-inside j a h e = omega (arith, start_small (take k sizes) j, get_or-take k sizes j 0 h, f.whole)
-
-  -- what is read of layer j decides
-  lies-read : (level : Bool) (j a : ℕ) → j < k → a ≡ sum (take j (take k sizes)) → layer_lies level (layers_of (take k sizes) cells) j ≡ all_lie level (get_or sizes j 0) (λ p. rect_at cells (a + p))
-  lies-read level j a h e = layer-lies level (take k sizes) cells j ∙ rw (get_or-take k sizes j 0 h, e)
-
-  layers-many : length (layers_of (take k sizes) cells) ≡ k
-  layers-many = layers-long (take k sizes) cells ∙ many
-
-  pub segmented-not : (a : ℕ) → a ≡ sum (take (k - 2) (take k sizes)) → all_lie true (get_or sizes (k - 2) 0) (λ p. rect_at cells (a + p)) ≡ false → false ≡ segmented (layers_of (take k sizes) cells)
+  -- what is read of the two layers decides
+  pub segmented-is : (a b : ℕ) → a ≡ sum (take (length ns - 2) ns) → b ≡ sum (take (length ns - 1) ns)
+      → (t u : Bool) → t ≡ all_lie true (get_or ns (length ns - 2) 0) (λ p. rect_at cells (a + p)) → u ≡ all_lie false (get_or ns (length ns - 1) 0) (λ p. rect_at cells (b + p))
+      → t && u ≡ segmented (layers_of ns cells)
   unfolding segmented
-  segmented-not a e q = rw (layers-many, lies-read true (k - 2) a (omega (arith, two)) e, q)
-
-  pub segmented-is : (a : ℕ) → a ≡ sum (take (k - 2) (take k sizes)) → all_lie true (get_or sizes (k - 2) 0) (λ p. rect_at cells (a + p)) ≡ true
-      → (b : ℕ) → b ≡ sum (take (k - 1) (take k sizes)) → (t : Bool) → t ≡ all_lie false (get_or sizes (k - 1) 0) (λ p. rect_at cells (b + p)) → t ≡ segmented (layers_of (take k sizes) cells)
-  unfolding segmented
-  segmented-is a e q b d t r = r ∙ rw (layers-many, lies-read true (k - 2) a (omega (arith, two)) e, q, lies-read false (k - 1) b (omega (arith, two)) d)
+  segmented-is a b e d t u p q = rw (layers-long ns cells, layer-lies true ns cells (length ns - 2), layer-lies false ns cells (length ns - 1), ← e, ← d, ← p, ← q) refl
 
 -- ---- a row
 module _ (ns : List ℕ) (cells : List ℤ) (row : List ℕ) (is : is_row (layers_of ns cells) row ≡ true) where

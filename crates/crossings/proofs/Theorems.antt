@@ -28,7 +28,7 @@ use Rattle.join.specs.Table.{plan_table}
 use Rattle.join.proofs.Theorems.{tables}
 use Rattle.rows.specs.RowCall.{is_row}
 use Rattle.rows.proofs.Theorems.{rows}
-use Rattle.crossings.specs.declared.ClassAnswer.TheVariants.{Refused, NoRow, Class}
+use Rattle.std.specs.Prelude.{Some, None, Ok, Err}
 use Rattle.crossings.specs.Crossings.{class_of, class_in}
 use Rattle.crossings.specs.ClassCall.{lies, segmented, unwidened, crossing_cause, class_call}
 use Rattle.crossings.specs.inner.Ends.{all_lie}
@@ -102,11 +102,11 @@ crossing-causes s cells typed =
 
 -- ---- the class call
 module _ (s : Shape) (cells : List ℤ) (row : List ℕ) (passed : crossing_cause s cells ≡ 0) where
-  pub call-class : is_row (layers s cells) row ≡ true → class_call s cells row ≡ Class (class_in (layers s cells) row)
+  pub call-class : is_row (layers s cells) row ≡ true → class_call s cells row ≡ Ok (Some (class_in (layers s cells) row))
   unfolding class_call
   call-class e = rw (passed, e)
 
-  call_none : is_row (layers s cells) row ≡ false → class_call s cells row ≡ NoRow
+  call_none : is_row (layers s cells) row ≡ false → class_call s cells row ≡ Ok None
   unfolding class_call
   call_none e = rw (passed, e)
 
@@ -125,7 +125,7 @@ module _ (s : Shape) (cells : List ℤ) (typed : Typed s) (e : crossing_cause s 
 
   -- what the call answers for a row of the table
   pub row-class : Memᴰ row (plan_table s cells) → let rs = rects (layers s cells) row in
-      (class_call s cells row ≡ Class (class_of rs)) × IsClass rs (of_layer rs (s.k - 1)) (of_layer rs s.k) (class_of rs) × (length rs ≡ s.k)
+      (class_call s cells row ≡ Ok (Some (class_of rs))) × IsClass rs (of_layer rs (s.k - 1)) (of_layer rs s.k) (class_of rs) × (length rs ≡ s.k)
   row-class m =
       let q = named.1 m in
       let k = rects-long (sizes_of s) (grown s cells) row q ∙ many in
@@ -141,7 +141,7 @@ module _ (s : Shape) (cells : List ℤ) (typed : Typed s) (e : crossing_cause s 
     others = λ m. call_none s cells row e (never_true (is_row (layers s cells) row) (λ q. m (named.0 q)));
   }
 
-class-refusals : (s : Shape) (cells : List ℤ) (row : List ℕ) (n : ℕ) → crossing_cause s cells ≡ suc n → class_call s cells row ≡ Refused (suc n)
+class-refusals : (s : Shape) (cells : List ℤ) (row : List ℕ) (n : ℕ) → crossing_cause s cells ≡ suc n → class_call s cells row ≡ Err (suc n)
 unfolding class_call
 class-refusals s cells row n e = rw e
 

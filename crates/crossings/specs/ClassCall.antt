@@ -1,6 +1,6 @@
 -- The class call (02, Q-2): "takes a plan and a row's cells and returns the class, 17 where they name no row"; its checks 15 and 16; how many rows fall in
 -- each class.
-use Rattle.std.specs.Prelude.{List, Bool, true, false, cond, ◌&&◌, ℕ, ◌-◌, ℤ, eqb, leb, length, get_or}
+use Rattle.std.specs.Prelude.{List, Bool, true, false, cond, ◌&&◌, ℕ, ◌-◌, ℤ, eqb, leb, length, get_or, Option, Some, None, Result, Ok, Err}
 use Rattle.lists.specs.Lists.{upto, keep, holds_below}
 use Rattle.geometry.specs.declared.Rect.{Rect}
 use Rattle.plan.specs.declared.Shape.{Shape}
@@ -9,8 +9,6 @@ use Rattle.plan.specs.Plan.{Layer, layers_of, sizes_of, layers, plan_cause}
 use Rattle.plan.specs.Spots.{layer_at}
 use Rattle.join.specs.Join.{same_z}
 use Rattle.rows.specs.RowCall.{is_row}
-use Rattle.crossings.specs.declared.ClassAnswer.{ClassAnswer}
-use Rattle.crossings.specs.declared.ClassAnswer.TheVariants.{Refused, NoRow, Class}
 use Rattle.crossings.specs.Crossings.{class_in}
 
 -- ---- the checks
@@ -36,20 +34,20 @@ unfoldable pub crossing_cause : Shape → List ℤ → ℕ
 crossing_cause s cells =
     plan_cause s cells or_else unless (leb 3 s.k) 15 or_else unless (unwidened s.margins s.k && segmented (layers_of (sizes_of s) cells)) 16
 
--- ---- the class call
-unfoldable pub class_call : Shape → List ℤ → List ℕ → ClassAnswer
+-- ---- the class call: of a row its class, 0, or 4(i − 1) and 1, 2, 3 or 4 for the left, right, bottom or top end in layer i
+unfoldable pub class_call : Shape → List ℤ → List ℕ → Result (Option ℕ) ℕ
 class_call s cells row =
-    let ls = layers s cells in on_cause (crossing_cause s cells) (cond (is_row ls row) (Class (class_in ls row)) NoRow) (λ n. Refused n)
+    let ls = layers s cells in on_cause (crossing_cause s cells) (Ok (cond (is_row ls row) (Some (class_in ls row)) None)) Err
 
 -- its number and class for each answer; "17 where they name no row" is no refusal
 pub record ClassValues : Type 0 where
   pub number : ℕ
   pub class : ℕ
 
-abbrev pub class_values : ClassAnswer → ClassValues
-class_values (Refused cause) = record { number = cause; class = 0 }
-class_values NoRow = record { number = 0; class = 17 }
-class_values (Class class) = record { number = 0; class = class }
+abbrev pub class_values : Result (Option ℕ) ℕ → ClassValues
+class_values (Err cause) = record { number = cause; class = 0 }
+class_values (Ok None) = record { number = 0; class = 17 }
+class_values (Ok (Some class)) = record { number = 0; class = class }
 
 -- ---- 02: "how many rows fall in each class 0 to 16"
 abbrev pub count_of : List Layer → List (List ℕ) → ℕ → ℕ

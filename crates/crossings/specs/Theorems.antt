@@ -1,5 +1,5 @@
 -- Theorem: what is promised of the class of every row, of the class call, and of the checks 15 and 16. Proved in proofs/Theorems.antt.
-use Rattle.std.specs.Prelude.{◌≡◌, true, ◌↔◌, ℕ, suc, ◌+◌, ◌-◌, ◌*◌, ◌≤◌, ◌<◌, ℤ, length, get_or}
+use Rattle.std.specs.Prelude.{◌≡◌, true, ◌↔◌, ℕ, suc, ◌+◌, ◌-◌, ◌*◌, ◌≤◌, ◌<◌, ℤ, length, get_or, Option, Some, None, Result, Ok, Err}
 use mathlib.Core.List.{List, [], Memᴰ}
 use Rattle.geometry.specs.declared.Rect.{Rect}
 use Rattle.geometry.specs.Rectangles.{In}
@@ -12,8 +12,6 @@ use Rattle.plan.specs.Spots.{layer_at}
 use Rattle.join.specs.Join.{rects, common_of}
 use Rattle.join.specs.Table.{plan_table}
 use Rattle.crossings.specs.Crossings.{covers}
-use Rattle.crossings.specs.declared.ClassAnswer.{ClassAnswer}
-use Rattle.crossings.specs.declared.ClassAnswer.TheVariants.{Refused, NoRow, Class}
 use Rattle.crossings.specs.ClassCall.{crossing_cause, class_call, class_values}
 
 -- ---- 02's words
@@ -60,11 +58,11 @@ abbrev pub Segments : Shape → List ℤ → Type 0
 Segments s cells = LayerLies s cells (s.k - 2) (λ r. r.bottom ≡ r.top) × LayerLies s cells (s.k - 1) (λ r. r.left ≡ r.right)
 
 -- ---- the class call: what it answers for these cells, whose rectangles are rs
-pub record ClassHolds (s : Shape) (cells : List ℤ) (row : List ℕ) (rs : List Rect) (answer : ClassAnswer) : Type 0 where
+pub record ClassHolds (s : Shape) (cells : List ℤ) (row : List ℕ) (rs : List Rect) (answer : Result (Option ℕ) ℕ) : Type 0 where
   -- of a row of the table its class; its segments are those of layers k − 1 and k
   pub class : Memᴰ row (plan_table s cells)
-      → (class : ℕ) × (answer ≡ Class class) × IsClass rs (of_layer rs (s.k - 1)) (of_layer rs s.k) class × (length rs ≡ s.k)
-  pub others : (Memᴰ row (plan_table s cells) → ⊥) → answer ≡ NoRow
+      → (class : ℕ) × (answer ≡ Ok (Some class)) × IsClass rs (of_layer rs (s.k - 1)) (of_layer rs s.k) class × (length rs ≡ s.k)
+  pub others : (Memᴰ row (plan_table s cells) → ⊥) → answer ≡ Ok None
 
 pub record Crossings : Type 0 where
   -- a rectangle covers exactly the points that lie in it
@@ -73,9 +71,9 @@ pub record Crossings : Type 0 where
   pub causes : (s : Shape) (cells : List ℤ) → Typed s
       → PlanChecks s cells (Check 15 (3 ≤ s.k) (Check 16 (Segments s cells) Passed)) (crossing_cause s cells)
   pub refused : (s : Shape) (cells : List ℤ) (row : List ℕ) (n : ℕ) → crossing_cause s cells ≡ suc n
-      → class_call s cells row ≡ Refused (suc n)
+      → class_call s cells row ≡ Err (suc n)
   pub classes : (s : Shape) (cells : List ℤ) → Typed s → crossing_cause s cells ≡ 0
       → (row : List ℕ) → ClassHolds s cells row (rects (layers s cells) row) (class_call s cells row)
   -- the number and the class of each answer: "17 where they name no row"
-  pub values : (n : ℕ) → (class_values (Refused n) ≡ record { number = n; class = 0 }) × (class_values NoRow ≡ record { number = 0; class = 17 })
-      × (class_values (Class n) ≡ record { number = 0; class = n })
+  pub values : (n : ℕ) → (class_values (Err n) ≡ record { number = n; class = 0 }) × (class_values (Ok None) ≡ record { number = 0; class = 17 })
+      × (class_values (Ok (Some n)) ≡ record { number = 0; class = n })

@@ -1,78 +1,65 @@
 // The class of a row whose last two rectangles are segments (02, Q-2), and the checks 15 and 16. What they are is defined in the crate `crossings`.
 #![tactic(auto)]
 
-ghost use Rattle.std.specs.Prelude.{◌≡◌, [], true, ◌+◌, ◌*◌, ◌<◌, ◌≤◌, length, get_or, take};
+ghost use Rattle.std.specs.Prelude.{◌≡◌, [], true, ◌+◌, ◌*◌, ◌<◌, ◌≤◌, length, get_or};
+ghost use Rattle.plan.specs.Causes.{refusal, by_number};
 ghost use Rattle.plan.specs.Plan.{rect_at, layers_of};
 ghost use Rattle.plan.specs.Frames.{Framed};
-ghost use Rattle.join.specs.Join.{rects, common_of, same_z};
+ghost use Rattle.join.specs.Join.{rects, common_of};
 ghost use Rattle.rows.specs.RowCall.{is_row};
-ghost use Rattle.rows_code.specs.Reading.{widened, Readable};
+ghost use Rattle.rows_code.specs.Reading.{widened};
 ghost use Rattle.crossings.specs.Crossings.{covers, class_in};
 ghost use Rattle.crossings.specs.ClassCall.{lies, segmented, unwidened, crossing_cause, class_call, class_values};
 ghost use Rattle.crossings.specs.inner.Ends.{end_in, all_lie, class_told};
+ghost use Rattle.crossings_code.specs.Lies.{is_level};
 
-use crossings::ClassAnswer;
 use geometry::Rect;
-use plan::Shape;
-use plan_code::{plan_cause, rect_at, sum_of};
-use rows::Sharing;
-use rows_code::{ground_in, grown_in};
+use plan::{Cause, Shape};
+use plan_code::{check_plan, rect_at, sum_of};
+use rows_code::{Drawing, ground_in};
+
+// How a segment lies.
+#[derive(Clone, Copy)]
+enum Lie {
+    Level,
+    Upright,
+}
 
 // The class of the row that the lent cells name in the table of a plan.
-pub fn class_of(shape: Shape, cells: &[i32], places: &[u32]) -> ClassAnswer
-    ensures answer { result ≡ class_call shape cells.now places.now }
-    ensures values { class_values result ≡ class_values (class_call shape cells.now places.now) }
+pub fn class_of(shape: Shape, cells: &[i32], places: &[u32]) -> Result<Option<u32>, Cause>
+    ensures answer { by_number result ≡ class_call shape cells.now places.now }
+    ensures values { class_values (by_number result) ≡ class_values (class_call shape cells.now places.now) }
 {
-    let cause = crossing_cause(shape, cells);
-    if cause != 0 {
-        return ClassAnswer::Refused(cause);
-    }
-    class_told(
-        &shape.sizes,
-        &shape.margins,
-        shape.k as usize,
-        cells,
-        places,
-    )
+    check_segments(shape, cells)?;
+    Ok(class_told(&Drawing::of(&shape, cells), places))
 }
 
-// The class of the row that the cells name among the first k layers of a sound plan; only the rectangles of the row are grown.
-fn class_told<'a>(
-    sizes: &'a [u32],
-    margins: &'a [u32],
-    k: usize,
-    cells: &[i32],
-    places: &[u32],
-) -> ClassAnswer
-    requires { (k ≤ length sizes.now) × Readable (take k sizes.now) margins.now cells.now × (3 ≤ k) }
-    ensures { let ns = take k sizes.now in
-        result ≡ class_told (layers_of ns (widened ns margins.now cells.now)) places.now }
+// The class of the row that the cells name.
+fn class_told(drawing: &Drawing, row: &[u32]) -> Option<u32>
+    requires { 3 ≤ length drawing.now.sizes.now }
+    ensures { let ns = drawing.now.sizes.now in
+        result ≡ class_told (layers_of ns (widened ns drawing.now.margins.now drawing.now.cells.now)) row.now }
 {
-    match ground_in(&sizes[..k], margins, cells, places) {
-        Sharing::Nothing => ClassAnswer::NoRow,
-        Sharing::Shared(_) => ClassAnswer::Class(row_class(sizes, margins, k, cells, places)),
-    }
+    ground_in(drawing, row)?;
+    Some(row_class(drawing, row))
 }
 
-// The first of the causes 1 2 17 3 4 15 16 that applies, or 0.
-pub fn crossing_cause(shape: Shape, cells: &[i32]) -> u32
-    ensures { result ≡ crossing_cause shape cells.now }
+// The first of the causes 1 2 17 3 4 15 16 that applies.
+pub fn check_segments(shape: Shape, cells: &[i32]) -> Result<(), Cause>
+    ensures { refusal result ≡ crossing_cause shape cells.now }
 {
-    let cause = plan_cause(shape, cells);
-    if cause != 0 {
-        return cause;
-    }
+    check_plan(shape, cells)?;
     if shape.k < 3 {
-        return 15;
+        return Err(Cause::FewLayers);
     }
     if !is_unwidened(&shape.margins, shape.k as usize) {
-        return 16;
+        return Err(Cause::WrongSegment);
     }
-    if is_segmented(&shape.sizes, shape.k as usize, cells) {
-        0
-    } else {
-        16
+    let k = shape.k as usize;
+    if !is_segmented(&shape.sizes[..k], cells) {
+        return Err(Cause::WrongSegment);
     }
+    Ok(())
 }
 
 // Layers k - 1 and k have no margin.
@@ -85,89 +72,71 @@ fn is_unwidened(margins: &[u32], k: usize) -> bool
     (h == 0) & (v == 0)
 }
 
-// Layer k - 1 holds horizontal segments and layer k vertical ones.
-fn is_segmented(sizes: &[u32], k: usize, cells: &[i32]) -> bool
-    requires { (k ≤ length sizes.now) × Framed (take k sizes.now) cells.now }
-    ensures { result ≡ segmented (layers_of (take k sizes.now) cells.now) }
+// The last layer but one holds horizontal segments and the last one vertical ones.
+fn is_segmented(sizes: &[u32], cells: &[i32]) -> bool
+    requires { Framed sizes.now cells.now }
+    ensures { result ≡ segmented (layers_of sizes.now cells.now) }
 {
-    let here = &sizes[..k];
-    let i = k - 2;
-    let h = sum_of(&here[..i]);
-    if !all_lie(cells, h, sizes[i] as usize, true) {
-        return false;
-    }
-    let j = k - 1;
-    let v = sum_of(&here[..j]);
-    all_lie(cells, v, sizes[j] as usize, false)
+    let i = sizes.len() - 2;
+    let j = sizes.len() - 1;
+    let h = sum_of(&sizes[..i]);
+    let v = sum_of(&sizes[..j]);
+    all_lie(cells, h, sizes[i] as usize, Lie::Level)
+        && all_lie(cells, v, sizes[j] as usize, Lie::Upright)
 }
 
-// The `size` rectangles behind the first `start` are segments, horizontal ones where `level` is set.
-fn all_lie(cells: &[i32], start: usize, size: usize, level: bool) -> bool
+// The `size` rectangles behind the first `start` are segments that lie so. By hand, since the proof of the range's `all` did not close.
+fn all_lie(cells: &[i32], start: usize, size: usize, lie: Lie) -> bool
     requires { 4 * start + 4 * size ≤ length cells.now }
-    ensures { result ≡ all_lie level size (λ p. rect_at cells.now (start + p)) }
+    ensures { result ≡ all_lie (is_level lie) size (λ p. rect_at cells.now (start + p)) }
 {
-    let mut i: usize = 0;
-    while i < size {
-        if !is_segment(rect_at(cells, start + i), level) {
+    for i in 0..size {
+        if !is_segment(rect_at(cells, start + i), lie) {
             return false;
         }
-        i += 1;
     }
     true
 }
 
-fn is_segment(r: Rect, level: bool) -> bool
-    ensures { result ≡ lies level r }
+fn is_segment(r: Rect, lie: Lie) -> bool
+    ensures { result ≡ lies (is_level lie) r }
 {
-    if level {
-        return is_same(r.bottom, r.top);
+    match lie {
+        Lie::Level => r.bottom == r.top,
+        Lie::Upright => r.left == r.right,
     }
-    is_same(r.left, r.right)
 }
 
-fn is_same(a: i32, b: i32) -> bool
-    ensures { result ≡ same_z a b }
+// The class of a row of the layers' join.
+pub fn row_class(drawing: &Drawing, row: &[u32]) -> u32
+    requires three { 3 ≤ length drawing.now.sizes.now }
+    requires row_value { let ns = drawing.now.sizes.now in
+        is_row (layers_of ns (widened ns drawing.now.margins.now drawing.now.cells.now)) row.now ≡ true }
+    ensures { let ns = drawing.now.sizes.now in
+        result ≡ class_in (layers_of ns (widened ns drawing.now.margins.now drawing.now.cells.now)) row.now }
 {
-    (a <= b) & (b <= a)
-}
-
-// The class of a row of the first k layers' join, each rectangle grown by its layer's margin as it is read.
-pub fn row_class<'a>(
-    sizes: &'a [u32],
-    margins: &'a [u32],
-    k: usize,
-    cells: &[i32],
-    row: &[u32],
-) -> u32
-    requires k_in_bounds { (k ≤ length sizes.now) × Readable (take k sizes.now) margins.now cells.now × (3 ≤ k) }
-    requires row_value { let ns = take k sizes.now in is_row (layers_of ns (widened ns margins.now cells.now)) row.now ≡ true }
-    ensures { let ns = take k sizes.now in
-        result ≡ class_in (layers_of ns (widened ns margins.now cells.now)) row.now }
-{
-    let here = &sizes[..k];
-    let h = rect_in(here, margins, cells, row, k - 2);
-    let v = rect_in(here, margins, cells, row, k - 1);
-    let n = k - 2;
-    let mut j: usize = 0;
-    while j < n {
-        let e = end_in(rect_in(here, margins, cells, row, j), h, v);
+    let k = drawing.sizes.len();
+    let h = rect_in(drawing, row, k - 2);
+    let v = rect_in(drawing, row, k - 1);
+    for j in 0..k - 2 {
+        let e = end_in(rect_in(drawing, row, j), h, v);
         if e != 0 {
             return 4 * (j as u32) + e;
         }
-        j += 1;
     }
     0
 }
 
 // The grown rectangle of layer j, counted from 0, in a row of the layers' join.
-fn rect_in(sizes: &[u32], margins: &[u32], cells: &[i32], row: &[u32], j: usize) -> Rect
-    requires readable { Readable sizes.now margins.now cells.now × (j < length sizes.now) }
-    requires row_value { let ns = sizes.now in is_row (layers_of ns (widened ns margins.now cells.now)) row.now ≡ true }
-    ensures { let ns = sizes.now in
-        result ≡ get_or (rects (layers_of ns (widened ns margins.now cells.now)) row.now) j (common_of []) }
+fn rect_in(drawing: &Drawing, row: &[u32], j: usize) -> Rect
+    requires j_in_bounds { j < length drawing.now.sizes.now }
+    requires row_value { let ns = drawing.now.sizes.now in
+        is_row (layers_of ns (widened ns drawing.now.margins.now drawing.now.cells.now)) row.now ≡ true }
+    ensures { let ns = drawing.now.sizes.now in
+        result ≡ get_or (rects (layers_of ns (widened ns drawing.now.margins.now drawing.now.cells.now)) row.now) j (common_of []) }
 {
-    let start = sum_of(&sizes[..j]);
-    grown_in(cells, start, sizes[j] as usize, row[j] as usize, margins[j])
+    let start = sum_of(&drawing.sizes[..j]);
+    drawing.rect(row, start, j)
 }
 
 // The first of the four ends of two segments that the rectangle covers: 1 left, 2 right, 3 bottom, 4 top, 0 for none.
@@ -196,24 +165,13 @@ fn covers_point(r: Rect, x: i32, y: i32) -> bool
     (r.left <= x) & (x <= r.right) & (r.bottom <= y) & (y <= r.top)
 }
 
-// The number of a class call's answer.
-pub fn class_number(answer: ClassAnswer) -> u32
-    ensures { result ≡ (class_values answer).number }
-{
-    match answer {
-        ClassAnswer::Refused(cause) => cause,
-        ClassAnswer::NoRow => 0,
-        ClassAnswer::Class(_) => 0,
-    }
-}
-
 // The class in a class call's answer: 17 where there is no row, 0 for a refusal.
-pub fn class_cell(answer: ClassAnswer) -> u32
-    ensures { result ≡ (class_values answer).class }
+pub fn class_cell(answer: Result<Option<u32>, Cause>) -> u32
+    ensures { result ≡ (class_values (by_number answer)).class }
 {
     match answer {
-        ClassAnswer::Refused(_) => 0,
-        ClassAnswer::NoRow => 17,
-        ClassAnswer::Class(class) => class,
+        Err(_) => 0,
+        Ok(None) => 17,
+        Ok(Some(class)) => class,
     }
 }

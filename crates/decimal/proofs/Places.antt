@@ -16,10 +16,10 @@ use Rattle.decimal.specs.Numerals.{most_digits}
 use Rattle.decimal.specs.declared.Digits.{Digits}
 use Rattle.decimal.specs.declared.Kind.{Kind}
 use Rattle.decimal.specs.declared.Kind.TheVariants.{Minus, Zero, Digit, Tab, End, Other}
-use Rattle.decimal.specs.declared.Number.TheVariants.{Value, Bad}
+use Rattle.std.specs.Prelude.{None}
 use Rattle.decimal.specs.inner.Bytes.{kind_of, is_digit}
 use Rattle.decimal.specs.Reading.{Reading, more, magnitude, number}
-use Rattle.decimal.specs.inner.Places.{after_minus, number_at, is_minus, MoreFrom, placed, number_from, sign, zero_at}
+use Rattle.decimal.specs.inner.Places.{after_minus, number_at, is_minus, MoreFrom, read_to, placed, number_from, sign, zero_at}
 use Rattle.decimal.proofs.Powers.{powers}
 use Rattle.decimal.proofs.Bytes.{digit-is, kind-is}
 use Rattle.decimal.proofs.Reading.{stop, number-kind, magnitude-kind}
@@ -84,11 +84,6 @@ ended s at first value i f e g =
     let b : get_or (drop i s) 0 0 ≡ get_or s i 0 = get_or-drop i s 0 0 ∙ ap (λ (j : ℕ). get_or s j 0) z in
     record { reads = sym g.same ∙ stop f value (drop i s) (rw b e); inside = g.inside; small = value-small value f g.small }
 
-pub all_read : (s : List ℕ) (at first value i f : ℕ) → f ≤ 0 → Going s at first value i f → MoreFrom s at first (record { value = value; next = i })
-all_read s at first value i f h g =
-    let z : f ≡ 0 = omega arith in
-    record { reads = sym g.same ∙ ap (λ (k : ℕ). more k value (drop i s)) z; inside = g.inside; small = value-small value f g.small }
-
 -- ---- a number, by the kind of its first digit
 pub place : (s : List ℕ) (i : ℕ) → i ≤ length s → length s - length (drop i s) ≡ i
 place s i h = simp length-drop (omega arith)
@@ -100,16 +95,16 @@ after false k b t = number_at k b t
 
 pub zero-read : (minus : Bool) (s : List ℕ) (at b : ℕ) → at ≤ length s → zero_at minus at ≡ placed (length s) (after minus Zero b (drop at s))
 zero-read true s at b h = refl
-zero-read false s at b h = ap (Value (pos 0)) (sym (place s at h))
+zero-read false s at b h = ap (read_to (pos 0)) (sym (place s at h))
 
 pub digit-read : (minus : Bool) (s : List ℕ) (at b : ℕ) (r : Digits) (z : ℤ) → MoreFrom s at (b - 48) r → z ≡ sign minus r.value
-    → Value z r.next ≡ placed (length s) (after minus Digit b (drop at s))
+    → read_to z r.next ≡ placed (length s) (after minus Digit b (drop at s))
 digit-read true s at b r z m e = rw (m.reads, place s r.next m.inside, e)
 digit-read false s at b r z m e = rw (m.reads, place s r.next m.inside, e)
 
 -- the other kinds begin no number
 pub none_read : (minus : Bool) (n b : ℕ) (t : List ℕ)
-    → (Bad ≡ placed n (after minus Tab b t)) × (Bad ≡ placed n (after minus End b t)) × (Bad ≡ placed n (after minus Other b t))
+    → (None ≡ placed n (after minus Tab b t)) × (None ≡ placed n (after minus End b t)) × (None ≡ placed n (after minus Other b t))
 none_read true n b t = (refl, refl, refl)
 none_read false n b t = (refl, refl, refl)
 
@@ -153,6 +148,6 @@ begins s at minus i k m (inr h) e =
 
 -- a minus is none behind a minus, and does not stand where none was found
 pub minus-bad : (s : List ℕ) (at : ℕ) (minus : Bool) (i n b : ℕ) (t : List ℕ) → minus ≡ is_minus (kind_of (get_or s at 0)) → Begins minus at i → kind_of (get_or s i 0) ≡ Minus
-    → Bad ≡ placed n (after minus Minus b t)
+    → None ≡ placed n (after minus Minus b t)
 minus-bad s at minus i n b t m (inl h) e = rw h.0
 minus-bad s at minus i n b t m (inr h) e = clash (ap is_minus (ap (λ (j : ℕ). kind_of (get_or s j 0)) (sym h.1) ∙ e)) (sym m ∙ h.0)

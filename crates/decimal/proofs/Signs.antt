@@ -1,5 +1,5 @@
 -- A number's sign and magnitude, as the code takes them apart.
-use mathlib.Core.Path.{◌≡◌, refl}
+use mathlib.Core.Path.{◌≡◌, refl, sym, ap, ◌∙◌}
 use mathlib.Core.Bool.{true, false}
 use mathlib.Core.List.{◌∷◌}
 use Prim.Native.Nat.{ℕ, zero, suc, ◌^◌, ◌<◌}
@@ -8,7 +8,8 @@ use lib.Dec.{T}
 use lib.IntN.{ℤ, pos, negsuc, neg_ℤ, nat_abs, ◌-ℤ◌}
 use lib.Signed.{non_neg, lt_z}
 use mir.Syntax.{w32, w64}
-use mir.Val.{SFits, Fits}
+use mir.Val.{SFits, Fits, to_z, of_z}
+use mir.Facts.{to_z-of_z}
 use borrow.Author.Tests.{ltb-true}
 use Rattle.geometry.proofs.Integers.{zarith, one_side, sub-law, size-law, non_neg-law, →sfits}
 use Rattle.decimal.specs.Numerals.{decimal, numeral, most_digits, short}
@@ -44,6 +45,13 @@ pub pos-numeral : (z : ℤ) → lt_z z (pos 0) ≡ false → numeral z ≡ decim
 unfolding numeral
 pos-numeral (pos n) t = refl
 pos-numeral (negsuc n) t = absurd (omega zarith)
+
+-- by the code's test of the sign, with n for the magnitude
+pub minus_first : (z : ℤ) (n : ℕ) → SFits w32 z → lt_z (to_z w32 (of_z w32 z)) (pos 0) ≡ true → n ≡ nat_abs (to_z w32 (of_z w32 z)) → numeral z ≡ 45 ∷ decimal n
+minus_first z n f t e = neg-numeral z (simp to_z-of_z at t) ∙ ap (λ (k : ℕ). 45 ∷ decimal k) (sym (simp to_z-of_z at e))
+
+pub digits_alone : (z : ℤ) (n : ℕ) → SFits w32 z → lt_z (to_z w32 (of_z w32 z)) (pos 0) ≡ false → n ≡ nat_abs (to_z w32 (of_z w32 z)) → numeral z ≡ decimal n
+digits_alone z n f t e = pos-numeral z (simp to_z-of_z at t) ∙ ap decimal (sym (simp to_z-of_z at e))
 
 -- ---- and how it puts them together
 

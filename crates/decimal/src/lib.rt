@@ -3,7 +3,7 @@
 #![tactic(auto)]
 
 // What a byte of a number is, by its range.
-#[derive(Clone, Copy)]
+#[derive(Clone, Copy, PartialEq)]
 pub enum Kind {
     Minus,
     Zero,
@@ -11,13 +11,6 @@ pub enum Kind {
     Tab,
     End,
     Other,
-}
-
-// What reading a number gives: the number and the place behind it.
-#[derive(Clone, Copy)]
-pub enum Number {
-    Value(i32, usize),
-    Bad,
 }
 
 // The value of a run of digits, and the place behind it.

@@ -20,7 +20,7 @@ use Rattle.search.specs.Paging.{rows_of}
 use Rattle.search.proofs.Chains.{last_of}
 use Rattle.search.proofs.Paging.{rows_of-++}
 use Rattle.walk.specs.Walk.{places_of}
-use Rattle.search.specs.declared.Stop.TheVariants.{Ended}
+use Rattle.search.specs.Stops.{Ended}
 use Rattle.paging.specs.Overlays.{Overlay}
 use Rattle.paging.specs.Cursors.{due_cursor}
 use Rattle.paging.specs.Theorems.{Call, cause, answer, Due}

@@ -25,8 +25,8 @@ use Rattle.walk.proofs.Theorems.{walk-is-table}
 use Rattle.timed.specs.Timed.{Held}
 use Rattle.timed.proofs.Theorems.{timed-walks}
 use Rattle.paging.specs.declared.Ticket.{Ticket}
-use Rattle.paging.specs.declared.Fresh.{Fresh}
-use Rattle.paging.specs.declared.Page.{Page}
+use Rattle.paging.specs.Answers.{FreshValues}
+use Rattle.paging.specs.Answers.{PageValues}
 use Rattle.paging.specs.Overlays.{Overlay, overlay_of}
 use Rattle.paging.specs.Cursors.{due_cursor}
 use Rattle.paging.specs.Calls.{fresh_cause, fresh_call, fresh_counter}
@@ -92,7 +92,7 @@ module _ (windows : Option (List ℕ)) (s : Shape) (cells : List ℤ) where
     run-begun =
         let c = fresh-passed s cells order counter f in
         let h = fresh-accepted windows s cells order counter typed c.0 c.1 in
-        steady-begun begins left (ap (λ (f : Fresh). f.ticket) h.0) h.1
+        steady-begun begins left (ap (λ (f : FreshValues). f.ticket) h.0) h.1
 
     -- demand 3, of one list
     pub run-holding : (xs : List Call) → InRun windows s cells (begun begins left) xs → PagingHolds ours xs × TicketsHold begins left xs
@@ -134,7 +134,7 @@ module _ (windows : Option (List ℕ)) (s : Shape) (cells : List ℤ) where
     chain-counter : (ys : List Call) (r : Course) → r.counter ≡ r.newest.count ∷ [] → (course_after r ys).counter ≡ (course_after r ys).newest.count ∷ []
     chain-counter [] r e = e
     chain-counter (y ∷ ys) r e = course-next (λ q. q.counter ≡ q.newest.count ∷ []) r y ys
-        (λ z. chain-counter ys (advanced r y) ((serves-own y).counted z ∙ ap (λ (p : Page). p.ticket.count ∷ []) (sym ((serves-own y).page z))))
+        (λ z. chain-counter ys (advanced r y) ((serves-own y).counted z ∙ ap (λ (p : PageValues). p.ticket.count ∷ []) (sym ((serves-own y).page z))))
         (λ n. chain-counter ys r e)
 
     chain_run : (xs : List Call) → Chain windows s cells t xs → InRun windows s cells chain xs

@@ -28,7 +28,7 @@ use Rattle.timed.specs.Theorems.{WholeWeek}
 use Rattle.timed.proofs.Theorems.{timed-walks}
 use Rattle.paging.specs.declared.Cursor.{Cursor}
 use Rattle.paging.specs.declared.Ticket.{Ticket}
-use Rattle.paging.specs.declared.Run.{Run}
+use Rattle.paging.specs.Answers.{Run, ran}
 use Rattle.paging.specs.Overlays.{Overlay, overlay, timed_overlay}
 use Rattle.paging.specs.Cursors.{cursor_of, due_cursor, ended_cursor, same_cursor, find_in, resume}
 use Rattle.paging.specs.Pages.{paged, page_of, area_sum}
@@ -136,7 +136,7 @@ module _ {S T : Type 0} where
             go (suc c) = refl
 
     run-same : (c : ℕ) (ls : List Layer) → run_call_on o c ls ≡ run_call_on (old o) c ls
-    run-same zero ls = ap (λ (n : ℕ). Run.Done (length o.table) n (area_sum o o.table) (ground_once ls o.table)) (sym (length-map o.walk old_probe))
+    run-same zero ls = ap (λ (n : ℕ). ran (length o.table) n (area_sum o o.table) (ground_once ls o.table)) (sym (length-map o.walk old_probe))
     run-same (suc c) ls = refl
 
 -- ---- a plan with windows of the whole week

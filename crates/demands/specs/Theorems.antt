@@ -15,7 +15,7 @@ use Rattle.rows.specs.Tables.{rows_in}
 use Rattle.crossings.specs.Theorems.{Segments}
 use Rattle.search.specs.Traversal.{row_of}
 use Rattle.search.specs.Paging.{rows_of}
-use Rattle.search.specs.declared.Stop.TheVariants.{Ended}
+use Rattle.search.specs.Stops.{Ended}
 use Rattle.walk.specs.Walk.{walk_of, places_of}
 use Rattle.walk.specs.Theorems.{WalkIsTable}
 use Rattle.windows.specs.Theorems.{Stated}

@@ -1,4 +1,5 @@
 -- A float's parts by the bits of its pattern, and floor and ceiling by its parts.
+use mir.Val.{bool_byte}
 use mathlib.Core.Path.{◌≡◌, refl, sym, ap, ◌∙◌, subst}
 use mathlib.Core.Bool.{Bool, true, false, not, cond, ◌&&◌}
 use mathlib.Core.Logic.{◌⊎◌, inl, inr}
@@ -301,6 +302,11 @@ finite-not nan e = refl
 finite-not (inf s) e = refl
 finite-not (fin s m d) e = cc
 
+-- a flag as a number
+pub number-of : (b : Bool) → bool_byte b ≡ cond b 1 0
+number-of true = refl
+number-of false = refl
+
 -- floor and ceiling by the parts that the code has
 pub floor-below : (x : Float) (s : Bool) (w : ℕ) (r : Bool) → Parts x s w r → s ≡ true → floor_of x ≡ neg_ℤ (pos (w + cond r 1 0))
 unfolding floor_of
@@ -335,6 +341,22 @@ ceil-above (fin t m d) s w r p e = ceil-parts (fin t m d) ∙ go t (whole_of (fi
     go : (t : Bool) (v : ℕ) (q : Bool) → t ≡ false → v ≡ w → q ≡ r → cond t (neg_ℤ (pos v)) (pos (v + cond q 1 0)) ≡ pos (w + cond r 1 0)
     go t v q e1 e2 e3 = cc
 
+-- ... a value below 0 goes down where anything was cut off, one from 0 on is cut
+pub floor-told : (x : Float) (s : Bool) (w : ℕ) (r : Bool) → Parts x s w r → cond s (neg_ℤ (pos (w + bool_byte (s && r)))) (pos (w + bool_byte (s && r))) ≡ floor_of x
+floor-told x s w r p = go s refl
+  where
+    go : (t : Bool) → s ≡ t → cond t (neg_ℤ (pos (w + bool_byte (t && r)))) (pos (w + bool_byte (t && r))) ≡ floor_of x
+    go true e = ap (λ (n : ℕ). neg_ℤ (pos (w + n))) (number-of r) ∙ sym (floor-below x s w r p e)
+    go false e = ap pos (omega arith) ∙ sym (floor-above x s w r p e)
+
+-- ... a value from 0 on goes up where anything was cut off, one below 0 is cut
+pub ceil-told : (x : Float) (s : Bool) (w : ℕ) (r : Bool) → Parts x s w r → cond s (neg_ℤ (pos (w + bool_byte (not s && r)))) (pos (w + bool_byte (not s && r))) ≡ ceil_of x
+ceil-told x s w r p = go s refl
+  where
+    go : (t : Bool) → s ≡ t → cond t (neg_ℤ (pos (w + bool_byte (not t && r)))) (pos (w + bool_byte (not t && r))) ≡ ceil_of x
+    go true e = ap (λ (n : ℕ). neg_ℤ (pos n)) (omega arith) ∙ sym (ceil-below x s w r p e)
+    go false e = ap (λ (n : ℕ). pos (w + n)) (number-of r) ∙ sym (ceil-above x s w r p e)
+
 pub parts-bound : (x : Float) (s : Bool) (w : ℕ) (r : Bool) → Parts x s w r → T (near x) → w ≤ farthest
 parts-bound x s w r p t = subst (λ (y : ℕ). y ≤ farthest) p.whole (near-whole x t)
 
@@ -353,3 +375,7 @@ zero-less-is n h = to_z-of_z w32 (pos 0 -ℤ to_z w32 n) (zero-less-fits n h) �
 
 pub plain-is : (n : ℕ) → n ≤ farthest + 1 → to_z w32 n ≡ pos n
 plain-is n h = to_z_pos w32 n (omega arith)
+
+pub number-most : (n : ℕ) (b : Bool) → n ≡ bool_byte b → n ≤ 1
+number-most n true e = omega (arith, e)
+number-most n false e = omega (arith, e)

@@ -21,18 +21,14 @@ pub fn is_finite(x: f64) -> bool
 {
     let above = f64::from_bits(0x7ff0_0000_0000_0000);
     let below = f64::from_bits(0xfff0_0000_0000_0000);
-    if below < x { x < above } else { false }
+    below < x && x < above
 }
 
 // Whether x is near enough to 0 to be taken down or up to 32 bits.
 pub fn is_near(x: f64) -> bool
     ensures { result ≡ near x }
 {
-    if -1073741824.0 <= x {
-        x <= 1073741824.0
-    } else {
-        false
-    }
+    -1073741824.0 <= x && x <= 1073741824.0
 }
 
 // The greatest whole number that is not above x.
@@ -41,10 +37,7 @@ pub fn floor(x: f64) -> i32
     ensures { result ≡ floor_of x }
 {
     let c = taken_apart(x);
-    if c.below {
-        return signed(true, one_more_if(c.rest, c.whole));
-    }
-    signed(false, c.whole)
+    signed(c.below, c.whole + u64::from(c.below & c.rest))
 }
 
 // The least whole number that is not below x.
@@ -53,10 +46,7 @@ pub fn ceil(x: f64) -> i32
     ensures { result ≡ ceil_of x }
 {
     let c = taken_apart(x);
-    if c.below {
-        return signed(true, c.whole);
-    }
-    signed(false, one_more_if(c.rest, c.whole))
+    signed(c.below, c.whole + u64::from(!c.below & c.rest))
 }
 
 fn taken_apart(x: f64) -> Cut
@@ -90,14 +80,7 @@ fn apart_by_bits(bits: u64) -> Cut
     }
 }
 
-fn one_more_if(rest: bool, whole: u64) -> u64
-    requires { whole ≤ farthest }
-    ensures { (result ≡ whole + cond rest 1 0) × (result ≤ whole + 1) }
-{
-    if rest { whole + 1 } else { whole }
-}
-
-// The number with this sign and size.
+// The number with this sign and size. A flag, since it is the sign that the value has.
 fn signed(below: bool, size: u64) -> i32
     requires { size ≤ farthest + 1 }
     ensures { result ≡ cond below (neg_ℤ (pos size)) (pos size) }

@@ -13,7 +13,7 @@ use native.Mathlib.Omega.{arith}
 use Rattle.geometry.specs.declared.Rect.{Rect}
 use Rattle.geometry.specs.declared.Kind.{Kind}
 use Rattle.geometry.specs.declared.Kind.TheVariants.{Ground, Edge, Point}
-use Rattle.geometry.specs.declared.Meeting.TheVariants.{Apart, Common}
+use Rattle.std.specs.Prelude.{Option, None, Some}
 use Rattle.geometry.specs.Rectangles.{common, nonempty, meets, kind_of, meeting, reach, extent, between}
 use Rattle.geometry.proofs.Integers.{zarith, sub-law, one_side, size-law, non_neg-law, →sfits, sfits→}
 
@@ -51,11 +51,11 @@ unfolding kind_of
 kind-is r t u e f = rw (e, f)
 
 module _ (a b c : Rect) (t : Bool) (made : c ≡ common a b) (told : t ≡ nonempty c) where
-  pub meet-then : (k : Kind) → t ≡ true → k ≡ kind_of c → Common c k ≡ meeting a b
+  pub meet-then : (k : Kind) → t ≡ true → k ≡ kind_of c → ◌≡◌ {A = Option (Rect × Kind)} (Some (c, k)) (meeting a b)
   unfolding meeting meets
   meet-then k e f = cc
 
-  pub meet-else : t ≡ false → Apart ≡ meeting a b
+  pub meet-else : t ≡ false → None ≡ meeting a b
   unfolding meeting meets
   meet-else e = cc
 

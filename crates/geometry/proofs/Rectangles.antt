@@ -5,12 +5,13 @@ use Prim.Native.Nat.{ℕ, ◌+◌, ◌*◌, ◌≤◌, min, max}
 use native.Mathlib.Omega.{arith}
 use native.Mathlib.Nat.{mul-le-mul}
 use lib.IntN.{ℤ, pos, neg_ℤ, nat_abs, ◌+ℤ◌, ◌-ℤ◌}
-use lib.Signed.{le_z, ◌≤ℤ◌}
+use lib.Signed.{le_z, lt_z, ◌≤ℤ◌}
+use Rattle.std.specs.Int.{int_max, int_min}
+use Rattle.std.proofs.lemmas.Int.{ints}
 use Rattle.lists.proofs.Tests.{both, and-true}
 use Rattle.geometry.specs.declared.Rect.{Rect}
 use Rattle.geometry.specs.declared.Kind.{Kind}
-use Rattle.geometry.specs.declared.Meeting.{Meeting}
-use Rattle.geometry.specs.declared.Meeting.TheVariants.{Apart, Common}
+use Rattle.std.specs.Prelude.{Option, None, Some}
 use Rattle.geometry.specs.Rectangles.{In, max_z, min_z, common, nonempty, meets, kind_of, meeting, reach, extent, between, held, in_range, in_extent, area_of, most_area, grown_by}
 use Rattle.geometry.specs.Theorems.{Ranged, Growing}
 use Rattle.geometry.proofs.Integers.{up, dn, zarith, neg-law, one_side, size-law, add-law, sub-law}
@@ -32,6 +33,15 @@ min-law a b = go (le_z a b) refl
     go : (t : Bool) → le_z a b ≡ t → up (cond t a b) + dn a + dn b ≡ min (up a + dn b) (up b + dn a) + dn (cond t a b)
     go true e = omega zarith
     go false e = omega zarith
+
+-- the library's maximum and minimum, which the code calls
+pub max-is : (a b : ℤ) → int_max a b ≡ max_z a b
+unfolding max_z
+max-is a b = grind (arith, ints)
+
+pub min-is : (a b : ℤ) → int_min a b ≡ min_z a b
+unfolding min_z
+min-is a b = grind (arith, ints)
 
 pub max_comm : (a b : ℤ) → max_z a b ≡ max_z b a
 max_comm a b = omega (zarith, max-law a b, max-law b a)
@@ -106,20 +116,22 @@ point-meets a b x y h k =
     and-true (le_z c.left c.right) (le_z c.bottom c.top) (omega zarith) (omega zarith)
 
 -- what a meeting tells of two rectangles
-module _ (a b : Rect) (m : Meeting) (made : m ≡ meeting a b) where
-  pub meeting-common : (c : Rect) (k : Kind) → m ≡ Common c k → (meets a b ≡ true) × (c ≡ common a b) × (k ≡ kind_of (common a b))
+module _ (a b : Rect) (m : Option (Rect × Kind)) (made : m ≡ meeting a b) where
+  pub meeting-common : (c : Rect) (k : Kind) → m ≡ Some (c, k) → (meets a b ≡ true) × (c ≡ common a b) × (k ≡ kind_of (common a b))
   unfolding meeting
   meeting-common c k e = go (meets a b) (sym e ∙ made)
     where
-      go : (t : Bool) → Common c k ≡ cond t (Common (common a b) (kind_of (common a b))) Apart → (t ≡ true) × (c ≡ common a b) × (k ≡ kind_of (common a b))
-      go true q = (refl, cc, cc)
+      go : (t : Bool) → ◌≡◌ {A = Option (Rect × Kind)} (Some (c, k)) (cond t (Some (common a b, kind_of (common a b))) None) → (t ≡ true) × (c ≡ common a b) × (k ≡ kind_of (common a b))
+      go true q =
+          let p : ◌≡◌ {A = Rect × Kind} (c, k) (common a b, kind_of (common a b)) = cc in
+          (refl, ap (λ (x : Rect × Kind). x.0) p, ap (λ (x : Rect × Kind). x.1) p)
       go false q = let z : ◌≡◌ {A = ℕ} 0 1 = cc in absurd (omega arith)
 
-  pub meeting-apart : m ≡ Apart → meets a b ≡ false
+  pub meeting-apart : m ≡ None → meets a b ≡ false
   unfolding meeting
   meeting-apart e = go (meets a b) (sym e ∙ made)
     where
-      go : (t : Bool) → Apart ≡ cond t (Common (common a b) (kind_of (common a b))) Apart → t ≡ false
+      go : (t : Bool) → ◌≡◌ {A = Option (Rect × Kind)} None (cond t (Some (common a b, kind_of (common a b))) None) → t ≡ false
       go true q = let z : ◌≡◌ {A = ℕ} 0 1 = cc in absurd (omega arith)
       go false q = refl
 

@@ -11,7 +11,7 @@ use Rattle.lists.proofs.Tests.{never_true}
 use Rattle.geometry.specs.declared.Rect.{Rect}
 use Rattle.geometry.specs.declared.Kind.{Kind}
 use Rattle.geometry.specs.declared.Kind.TheVariants.{Ground, Edge, Point}
-use Rattle.geometry.specs.declared.Meeting.TheVariants.{Apart, Common}
+use Rattle.std.specs.Prelude.{None, Some}
 use Rattle.geometry.specs.Rectangles.{In, common, nonempty, meets, kind_of, meeting, area_of}
 use Rattle.geometry.specs.Theorems.{kind_by}
 use Rattle.geometry.proofs.Integers.{zarith, one_side, size-law, add-law, sub-law}
@@ -62,13 +62,13 @@ kind-area r e =
     none _ _ (kind-sides r _ _ (side-of r.left r.right s.0) (side-of r.bottom r.top s.1))
 
 -- ---- what is handed back
-pub meets-handed : (a b : Rect) → (meets a b ≡ true) ↔ (meeting a b ≡ Common (common a b) (kind_of (common a b)))
+pub meets-handed : (a b : Rect) → (meets a b ≡ true) ↔ (meeting a b ≡ Some (common a b, kind_of (common a b)))
 unfolding meeting
 meets-handed a b = (λ e. rw e, λ e. (meeting-common a b (meeting a b) refl _ _ e).0)
 
-pub handed : (a b : Rect) (x y : ℤ) → In x y a → In x y b → meeting a b ≡ Common (common a b) (kind_of (common a b))
+pub handed : (a b : Rect) (x y : ℤ) → In x y a → In x y b → meeting a b ≡ Some (common a b, kind_of (common a b))
 handed a b x y h k = (meets-handed a b).0 (point-meets a b x y h k)
 
-pub not-handed : (a b : Rect) → ((x y : ℤ) → In x y a → In x y b → ⊥) → meeting a b ≡ Apart
+pub not-handed : (a b : Rect) → ((x y : ℤ) → In x y a → In x y b → ⊥) → meeting a b ≡ None
 unfolding meeting
 not-handed a b n = rw (never_true (meets a b) (λ e. let p = meets-point a b e in n p.0 p.1 p.2.0 p.2.1))

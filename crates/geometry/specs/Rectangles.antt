@@ -1,11 +1,9 @@
 -- Closed rectangles (01, "The plan" and "The table").
-use Rattle.std.specs.Prelude.{Bool, cond, ◌&&◌, ℕ, ◌*◌, ℤ, pos, neg_ℤ, nat_abs, ◌+ℤ◌, ◌-ℤ◌, ◌≤ℤ◌}
+use Rattle.std.specs.Prelude.{Bool, cond, ◌&&◌, ℕ, ◌*◌, ℤ, pos, neg_ℤ, nat_abs, ◌+ℤ◌, ◌-ℤ◌, ◌≤ℤ◌, Option, None, Some}
 use Rattle.std.specs.Int.Signed.{le_z, lt_z}
 use Rattle.geometry.specs.declared.Rect.{Rect}
 use Rattle.geometry.specs.declared.Kind.{Kind}
 use Rattle.geometry.specs.declared.Kind.TheVariants.{Ground, Edge, Point}
-use Rattle.geometry.specs.declared.Meeting.{Meeting}
-use Rattle.geometry.specs.declared.Meeting.TheVariants.{Apart, Common}
 
 -- the point x, y lies in the rectangle. 01: "Edges belong to the rectangles, so touching counts." Whole millimetres are points enough:
 -- rectangles with any common point have their common rectangle's corner in common
@@ -45,8 +43,8 @@ letter_of Edge = 69
 letter_of Point = 80
 
 -- 02, Q-7: "The test of two rectangles shall say whether they meet and, if so, hand back their common rectangle and its kind"
-unfoldable pub meeting : Rect → Rect → Meeting
-meeting a b = cond (meets a b) (Common (common a b) (kind_of (common a b))) Apart
+unfoldable pub meeting : Rect → Rect → Option (Rect × Kind)
+meeting a b = cond (meets a b) (Some (common a b, kind_of (common a b))) None
 
 -- ---- range
 -- 02, Q-13: "Coordinates widen to 10,000,000 either way of 0"

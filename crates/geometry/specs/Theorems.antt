@@ -1,9 +1,8 @@
 -- Theorem: what is promised of rectangles, one or two. Proved in proofs/Theorems.antt.
-use Rattle.std.specs.Prelude.{◌≡◌, true, ◌↔◌, ℕ, zero, suc, ◌*◌, ◌≤◌, ℤ, pos, neg_ℤ, ◌+ℤ◌, ◌≤ℤ◌}
+use Rattle.std.specs.Prelude.{◌≡◌, true, ◌↔◌, ℕ, zero, suc, ◌*◌, ◌≤◌, ℤ, pos, neg_ℤ, ◌+ℤ◌, ◌≤ℤ◌, None, Some}
 use Rattle.geometry.specs.declared.Rect.{Rect}
 use Rattle.geometry.specs.declared.Kind.{Kind}
 use Rattle.geometry.specs.declared.Kind.TheVariants.{Ground, Edge, Point}
-use Rattle.geometry.specs.declared.Meeting.TheVariants.{Apart, Common}
 use Rattle.geometry.specs.Rectangles.{In, common, nonempty, meets, kind_of, letter_of, meeting, held, in_range, grown_by, area_of}
 
 -- 02, Q-13: "Coordinates widen to 10,000,000 either way of 0"
@@ -29,8 +28,8 @@ pub record CommonGround (a b : Rect) : Type 0 where
   -- the test says whether they have a common point
   pub meet : (meets a b ≡ true) ↔ Meet a b
   -- 02, Q-7: "and, if so, hand back their common rectangle and its kind"; others nothing
-  pub handed : Meet a b → meeting a b ≡ Common (common a b) (kind_of (common a b))
-  pub apart : (Meet a b → ⊥) → meeting a b ≡ Apart
+  pub handed : Meet a b → meeting a b ≡ Some (common a b, kind_of (common a b))
+  pub apart : (Meet a b → ⊥) → meeting a b ≡ None
 
 -- 02, Q-7: "G with both sides above 0, E with exactly one side 0, P with both 0"
 abbrev pub kind_by : (width height : ℕ) → Kind

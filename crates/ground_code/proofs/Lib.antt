@@ -1,8 +1,6 @@
 pub mod Places
-pub mod Shifts
 pub mod Inserts
 pub mod Strips
-pub mod Bare
 pub mod Covers
 pub mod Spans
 pub mod Reach

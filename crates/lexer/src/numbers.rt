@@ -4,7 +4,7 @@ ghost use Rattle.decimal.specs.Numerals.{most_digits};
 ghost use Rattle.decimal.specs.inner.Bytes.{kind_of, is_digit};
 ghost use Rattle.decimal.specs.inner.Places.{is_minus, MoreFrom, sign, zero_at, number_from};
 
-use decimal::{Digits, Kind, Number};
+use decimal::{Digits, Kind};
 
 // The most digits of a number behind its first: `most_digits - 1`.
 const MORE: usize = 7;
@@ -39,28 +39,14 @@ pub fn kind_at(s: &[u8], i: usize) -> Kind
 fn is_digit(kind: Kind) -> bool
     ensures { result ≡ is_digit kind }
 {
-    match kind {
-        Kind::Minus => false,
-        Kind::Zero => true,
-        Kind::Digit => true,
-        Kind::Tab => false,
-        Kind::End => false,
-        Kind::Other => false,
-    }
+    matches!(kind, Kind::Zero | Kind::Digit)
 }
 
 // Whether a byte of this kind is a minus.
 fn is_minus(kind: Kind) -> bool
     ensures { result ≡ is_minus kind }
 {
-    match kind {
-        Kind::Minus => true,
-        Kind::Zero => false,
-        Kind::Digit => false,
-        Kind::Tab => false,
-        Kind::End => false,
-        Kind::Other => false,
-    }
+    matches!(kind, Kind::Minus)
 }
 
 // Up to MORE digits more, behind a first one.
@@ -70,19 +56,17 @@ fn more_digits(s: &[u8], at: usize, first: u32) -> Digits
 {
     let mut value = first;
     let mut i = at;
-    let mut f: usize = MORE;
-    while 0 < f {
+    for _ in 0..MORE {
         if !is_digit(kind_at(s, i)) {
-            return Digits { value, next: i };
+            break;
         }
         value = value * 10 + (s[i] - 48) as u32;
         i += 1;
-        f -= 1;
     }
     Digits { value, next: i }
 }
 
-// A magnitude as a number above 0, or below it.
+// A magnitude as a number above 0, or below it. A flag, since it says what was read: whether a minus stands before the digits.
 fn signed(n: u32, minus: bool) -> i32
     requires { n < 10 ^ most_digits }
     ensures { result ≡ sign minus n }
@@ -93,32 +77,32 @@ fn signed(n: u32, minus: bool) -> i32
     n as i32
 }
 
-// The number at a place: its minus, if it has one, and what its first digit decides.
-pub fn read_number(s: &[u8], at: usize) -> Number
+// The number at a place and the place behind it: its minus, if it has one, and what its first digit decides.
+pub fn read_number(s: &[u8], at: usize) -> Option<(i32, usize)>
     ensures { result ≡ number_from s.now at }
 {
     let minus = is_minus(kind_at(s, at));
     let i = if minus { at + 1 } else { at };
     match kind_at(s, i) {
-        Kind::Minus => Number::Bad,
+        Kind::Minus => None,
         Kind::Zero => zero_at(i, minus),
         Kind::Digit => {
             let d = more_digits(s, i + 1, (s[i] - 48) as u32);
-            Number::Value(signed(d.value, minus), d.next)
+            Some((signed(d.value, minus), d.next))
         }
-        Kind::Tab => Number::Bad,
-        Kind::End => Number::Bad,
-        Kind::Other => Number::Bad,
+        Kind::Tab => None,
+        Kind::End => None,
+        Kind::Other => None,
     }
 }
 
-// The number 0 at a place, which no minus stands before.
-fn zero_at(at: usize, minus: bool) -> Number
+// The number 0 at a place, which no minus stands before. The flag says what was read, as above.
+fn zero_at(at: usize, minus: bool) -> Option<(i32, usize)>
     requires { at < 18446744073709551615 }
     ensures { result ≡ zero_at minus (at + 1) }
 {
     if minus {
-        return Number::Bad;
+        return None;
     }
-    Number::Value(0, at + 1)
+    Some((0, at + 1))
 }

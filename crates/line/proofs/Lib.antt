@@ -3,5 +3,4 @@ pub mod Lines
 pub mod Words
 pub mod Places
 pub mod Lengths
-pub mod Fields
 pub mod Theorems

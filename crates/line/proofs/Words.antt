@@ -7,8 +7,9 @@ use mathlib.Core.Logic.{◌⊎◌, inl, inr}
 use Prim.Native.Nat.{ℕ, ◌+◌, ◌≤◌, ◌<◌}
 use native.Mathlib.Omega.{arith}
 use lib.Dec.{eqb}
-use lib.ListN.{length, get_or, drop, drop_of_length-le, get_or-eq_default}
-use borrow.Author.Tests.{eqb-true, eq-eqb, ne_eqb}
+use lib.Pointwise.{pointwise}
+use lib.ListN.{length, get_or, take, drop, drop_of_length-le, get_or-eq_default}
+use borrow.Author.Tests.{eqb-true, eq-eqb}
 use Rattle.lists.proofs.Tests.{clash, same_test, total}
 use Rattle.decimal.specs.declared.Kind.{Kind}
 use Rattle.decimal.specs.declared.Kind.TheVariants.{Minus, Zero, Digit, Tab, End, Other}
@@ -16,7 +17,7 @@ use Rattle.decimal.specs.inner.Bytes.{kind_of}
 use Rattle.decimal.proofs.Bytes.{Is, kind-is}
 use Rattle.decimal.proofs.Places.{at_byte, inside}
 use Rattle.line.specs.Parsing.{behind}
-use Rattle.line.specs.Places.{starts_with, end_of, ends_by}
+use Rattle.line.specs.Places.{starts_with, Alone}
 
 -- ---- words
 
@@ -39,58 +40,32 @@ too_short (b ∷ w) (a ∷ t) h = go (eqb b a) (too_short w t (omega arith))
     go true k = k
     go false k = refl
 
--- the first i bytes of a word stand at `at`, and the rest of it decides
-pub record Matching (s : List ℕ) (at : ℕ) (word : List ℕ) (i : ℕ) : Type 0 where
-  pub inside : at + length word ≤ length s
-  pub few : i ≤ length word
-  pub same : starts_with (drop i word) (drop (at + i) s) ≡ starts_with word (drop at s)
-
-module _ (s word : List ℕ) (at i : ℕ) (m : Matching s at word i) where
-  -- one byte of the word more
-  step : i < length word → (eqb (get_or word i 0) (get_or s (at + i) 0) && starts_with (drop (i + 1) word) (drop (at + i + 1) s)) ≡ starts_with word (drop at s)
-  step h = sym (rw (at_byte word i h, at_byte s (at + i) (omega (arith, m.inside)))) ∙ m.same
-
-  pub differs : i < length word → (get_or s (at + i) 0 ≡ get_or word i 0 → ⊥) → false ≡ starts_with word (drop at s)
-  differs h n = sym (rw (ne_eqb (get_or word i 0) (get_or s (at + i) 0) (λ e. n (sym e)))) ∙ step h
-
-  pub matches : i < length word → get_or s (at + i) 0 ≡ get_or word i 0 → Matching s at word (i + 1)
-  matches h e =
-      let x : at + (i + 1) ≡ at + i + 1 = omega arith in
-      record { inside = m.inside; few = omega arith; same = rw x (sym (rw (eq-eqb (get_or word i 0) (get_or s (at + i) 0) (sym e))) ∙ step h) }
-
-  pub all-match : length word ≤ i → true ≡ starts_with word (drop at s)
-  all-match h = sym (ap (λ (w : List ℕ). starts_with w (drop (at + i) s)) (drop_of_length-le word h)) ∙ m.same
+-- the library's test of the start of a slice
+pub starts-same : (w t : List ℕ) → pointwise eqb w (take (length w) t) ≡ starts_with w t
+starts-same [] t = refl
+starts-same (b ∷ w) [] = refl
+starts-same (b ∷ w) (a ∷ t) = ap (λ (v : Bool). eqb b a && v) (starts-same w t)
 
 -- ---- the byte that ends a field
+pub tab-alone : Alone Tab 9
+tab-alone b = (λ e. rw e at (kind-is b), λ e. rw e (unfold kind_of in refl))
 
--- a byte that ends a field by its kind is the one that does
-ends-byte : (k : Kind) (last : Bool) (b : ℕ) → Is k b → ends_by k last ≡ true → end_of last ≡ b
-ends-byte Minus last b h e = clash e refl
-ends-byte Zero last b h e = clash e refl
-ends-byte Digit last b h e = clash e refl
-ends-byte Tab true b h e = clash e refl
-ends-byte Tab false b h e = sym h
-ends-byte End true b h e = sym h
-ends-byte End false b h e = clash e refl
-ends-byte Other last b h e = clash e refl
+pub end-alone : Alone End 10
+end-alone b = (λ e. rw e at (kind-is b), λ e. rw e (unfold kind_of in refl))
 
-end-kind : (last : Bool) → ends_by (kind_of (end_of last)) last ≡ true
+-- `Other` is no byte's alone, so where a byte of a kind that is stands, the text goes on
+pub alone-inside : (k : Kind) (e : ℕ) → Alone k e → (s : List ℕ) (i : ℕ) → kind_of (get_or s i 0) ≡ k → i < length s
 unfolding kind_of
-end-kind true = refl
-end-kind false = refl
-
-ends_is : (last : Bool) (b : ℕ) → eqb (end_of last) b ≡ ends_by (kind_of b) last
-ends_is last b =
-    same_test (eqb (end_of last) b) (ends_by (kind_of b) last)
-    (λ e. sym (ap (λ (a : ℕ). ends_by (kind_of a) last) (eqb-true (end_of last) b e)) ∙ end-kind last)
-    (λ e. eq-eqb (end_of last) b (ends-byte (kind_of b) last b (kind-is b) e))
-
-pub behind-end : (last : Bool) (s : List ℕ) (i : ℕ) → behind (end_of last ∷ []) (drop i s) ≡ cond (ends_by (kind_of (get_or s i 0)) last) (some (drop (i + 1) s)) none
-behind-end last s i = go (total (length s) i)
+alone-inside k e a s i h = go (total (length s) i)
   where
-    go : (length s ≤ i) ⊎ (i < length s) → behind (end_of last ∷ []) (drop i s) ≡ cond (ends_by (kind_of (get_or s i 0)) last) (some (drop (i + 1) s)) none
-    go (inl h) = rw (drop_of_length-le s {i = i} h, get_or-eq_default s 0 {n = i} h) (unfold kind_of in refl)
-    go (inr h) = rw (at_byte s i h, ends_is last (get_or s i 0))
+    go : (length s ≤ i) ⊎ (i < length s) → i < length s
+    go (inl l) =
+        let other : k ≡ Other = sym h ∙ rw (get_or-eq_default s 0 {n = i} l) refl in
+        absurd (omega (arith, (a 1).0 (sym other), (a 2).0 (sym other)))
+    go (inr l) = l
 
-pub ends-inside : (s : List ℕ) (i : ℕ) (last : Bool) → ends_by (kind_of (get_or s i 0)) last ≡ true → i < length s
-ends-inside s i last e = inside (λ k. ends_by k last) s i refl e
+pub behind-byte : (e : ℕ) (s : List ℕ) (i : ℕ) → i < length s → behind (e ∷ []) (drop i s) ≡ cond (eqb e (get_or s i 0)) (some (drop (i + 1) s)) none
+behind-byte e s i h = rw (at_byte s i h)
+
+pub behind-past : (e : ℕ) (s : List ℕ) (i : ℕ) → length s ≤ i → behind (e ∷ []) (drop i s) ≡ none
+behind-past e s i h = rw (drop_of_length-le s {i = i} h)

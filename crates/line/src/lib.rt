@@ -11,10 +11,3 @@ pub enum Line {
     Layer(i32, i32),
     Rectangle(Rect),
 }
-
-// What reading a line gives: the line and the place behind it.
-#[derive(Clone, Copy)]
-pub enum Found {
-    At(Line, usize),
-    Nothing,
-}

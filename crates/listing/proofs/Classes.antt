@@ -2,10 +2,10 @@
 use mathlib.Core.Path.{◌≡◌, refl, sym, ap, ◌∙◌}
 use mathlib.Core.List.{List, [], ◌∷◌, ◌++◌}
 use mathlib.Core.Option.{none}
-use Prim.Native.Nat.{ℕ, zero, suc, ◌*◌, ◌≤◌}
+use Prim.Native.Nat.{ℕ, zero, suc, ◌≤◌}
 use native.Mathlib.Omega.{arith}
 use lib.IntN.{ℤ}
-use lib.ListN.{length, take, length-append}
+use lib.ListN.{length, length-append}
 use Rattle.lists.proofs.Tests.{clash}
 use Rattle.lists.proofs.Kept.{length-upto}
 use Rattle.totals.specs.declared.Total.{Total}
@@ -20,11 +20,11 @@ use Rattle.rows.proofs.TableRows.{table-rows}
 use Rattle.crossings.specs.Crossings.{class_in}
 use Rattle.crossings.specs.ClassCall.{count_of, class_counts}
 use Rattle.crossings.proofs.Answers.{cause-three}
-use Rattle.paging.specs.declared.Run.{Run}
-use Rattle.paging.specs.declared.Run.TheVariants.{Refused, Done}
+use Rattle.paging.specs.Answers.{Run}
+use Rattle.std.specs.Prelude.{Err}
+use Rattle.paging.specs.Answers.{ran}
 use Rattle.paging.specs.Calls.{run_call, run_values}
-use Rattle.crossing_report.specs.declared.CrossingReport.{CrossingReport}
-use Rattle.crossing_report.specs.CrossingCall.{crossing_run_cause, crossing_call, crossing_table}
+use Rattle.crossing_report.specs.CrossingCall.{CrossingValues, crossing_run_cause, crossing_call, crossing_table}
 use Rattle.crossing_report.specs.Theorems.{CrossingReports}
 use Rattle.crossing_report.proofs.Theorems.{tallies}
 use Rattle.printing.specs.Lines.{total_line}
@@ -33,9 +33,7 @@ use Rattle.printing.proofs.Lines.{total-few}
 use Rattle.reporting.specs.Report.{run_table_cells, run_work_cells}
 use Rattle.reporting.proofs.Runs.{is-done}
 use Rattle.lists.specs.inner.Stores.{Put}
-use Rattle.lists.specs.Lists.{sum}
-use Rattle.reporting.specs.inner.Parts.{plan_cells}
-use Rattle.outcomes.specs.Outcomes.{Told, done, refused}
+use Rattle.outcomes.specs.Outcomes.{Told, done, refused, done_reply}
 use Rattle.outcomes.proofs.Outcomes.{told_same, told-done}
 use Rattle.outcomes.specs.inner.Rooms.{Room, room_for_all}
 use Rattle.listing.specs.Lines.{classed_lines, class_lines}
@@ -46,13 +44,13 @@ use Rattle.listing.proofs.Runs.{Finished, finished}
 use Rattle.listing.proofs.Crossings.{same-crossing, passed, ran-done, counted}
 
 -- the report's answer and its table
-pub crossed : (s : Shape) (cells : List ℤ) (order lent : List ℕ) (told : CrossingReport) (table : List ℕ)
+pub crossed : (s : Shape) (cells : List ℤ) (order lent : List ℕ) (told : CrossingValues) (table : List ℕ)
     → Sound s cells → order ≡ sweep_order (grown s cells) → length lent ≡ run_table_cells
     → told ≡ crossing_call s cells order lent run_work_cells → table ≡ crossing_table s cells order lent run_work_cells → Crossed s cells told table
 crossed s cells order lent told table sound o long e f =
     record { sound = sound; lent = lent; long = long; answer = rw o at e; filled = rw o at f }
 
-module _ (s : Shape) (cells : List ℤ) (told : CrossingReport) (table : List ℕ) (h : Crossed s cells told table) where
+module _ (s : Shape) (cells : List ℤ) (told : CrossingValues) (table : List ℕ) (h : Crossed s cells told table) where
   abbrev order : List ℕ
   order = sweep_order (grown s cells)
 
@@ -63,10 +61,10 @@ module _ (s : Shape) (cells : List ℤ) (told : CrossingReport) (table : List �
   reports = tallies.reports s cells order h.lent run_work_cells h.sound.typed
 
   run-told : told.run ≡ (crossing_call s cells order h.lent run_work_cells).run
-  run-told = ap (λ (r : CrossingReport). r.run) h.answer
+  run-told = ap (λ (r : CrossingValues). r.run) h.answer
 
   -- what is said where it refuses
-  pub crossed-refused : (c : ℕ) → told.run ≡ Refused c → plan_classes s cells ≡ refused c
+  pub crossed-refused : (c : ℕ) → told.run ≡ Err c → plan_classes s cells ≡ refused c
   unfolding plan_classes
   crossed-refused c e = go its refl
     where
@@ -76,7 +74,7 @@ module _ (s : Shape) (cells : List ℤ) (told : CrossingReport) (table : List �
           let q : suc n ≡ c = ap (λ (r : Run). (run_values r).number) (sym (reports.refused n z).0 ∙ (sym run-told ∙ e)) in
           rw (sym (same-crossing s cells h.lent h.long) ∙ z) (ap refused q)
 
-  module _ (rows probes : ℕ) (area total : Total) (e : told.run ≡ Done rows probes area total) where
+  module _ (rows probes : ℕ) (area total : Total) (e : told.run ≡ ran rows probes area total) where
     zero-cause : its ≡ 0
     zero-cause = go its refl
       where
@@ -91,7 +89,7 @@ module _ (s : Shape) (cells : List ℤ) (told : CrossingReport) (table : List �
     fin = finished none s cells h.sound h.lent h.long told.run table run_is (h.filled ∙ (reports.run zero-cause).2) rows probes area total e
 
     counts-are : told.counts ≡ class_counts (layers s cells) (plan_table s cells)
-    counts-are = ap (λ (r : CrossingReport). r.counts) h.answer ∙ counted s cells order h.lent run_work_cells zero-cause
+    counts-are = ap (λ (r : CrossingValues). r.counts) h.answer ∙ counted s cells order h.lent run_work_cells zero-cause
 
     -- what is said where it is done
     abbrev pub lines : List ℕ
@@ -130,10 +128,6 @@ module _ (s : Shape) (cells : List ℤ) (told : CrossingReport) (table : List �
     crossed-room out err r = record { fits = omega (arith, lines-few, r.answer) }
 
     -- they are told
-    pub crossed-told : (out err after : List ℕ) (n : ℕ) → Room out err → Put out 0 lines after n → Told (plan_classes s cells) out err after err (record { status = 0; out = n; err = 0 })
+    pub crossed-told : (out err after : List ℕ) (n : ℕ) → Room out err → Put out 0 lines after n → Told (plan_classes s cells) out err after err (done_reply n)
     crossed-told out err after n r p =
         told_same (done lines) out err after err _ (plan_classes s cells) (told-done out err lines after n (omega (arith, lines-few, r.answer)) p) crossed-lines
-
--- the same cells
-pub lent-classes : (s : Shape) (lent : List ℤ) (n : ℕ) → n ≡ sum s.sizes → plan_classes s (plan_cells s lent) ≡ plan_classes s (take (4 * n) lent)
-lent-classes s lent n e = rw e

@@ -18,15 +18,14 @@ use Rattle.text.specs.Plans.{rect_lines}
 use Rattle.text.proofs.Sizes.{rect-short}
 use Rattle.survey.specs.declared.Corners.{Corners}
 use Rattle.survey.specs.declared.Strip.{Strip}
-use Rattle.survey.specs.declared.Covering.{Covering}
-use Rattle.survey.specs.declared.Covering.TheVariants.{Kept, Refused}
+use Rattle.std.specs.Prelude.{Result, Ok, Err}
 use Rattle.survey.specs.Records.{cover_of, sound_record, cover_cells}
 use Rattle.survey.specs.Theorems.{CoverAccepted}
 use Rattle.survey.specs.CoverCall.{kept, cover_cause, layer_of, cover_answer, cover_after, cover_values}
 use Rattle.survey.proofs.Covers.{sound→}
 use Rattle.survey.proofs.CoverCall.{cells-long}
 use Rattle.survey.proofs.Layers.{kept-sound, accepted-is, refused-is}
-use Rattle.outcomes.specs.Outcomes.{Told, done, refused}
+use Rattle.outcomes.specs.Outcomes.{Told, done, refused, done_reply}
 use Rattle.outcomes.specs.inner.Rooms.{Room, room_for_all}
 use Rattle.outcomes.proofs.Outcomes.{told_same, told-done}
 use Rattle.listing.specs.Cover.{layer_text, corners_said}
@@ -40,38 +39,38 @@ covers-few : (cs : List Corners) → length (spell (rect_lines (cover_cells cs))
 covers-few [] = omega arith
 covers-few (c ∷ cs) = omega (arith, spell-length (Rectangle (cover_of c)) (spell (rect_lines (cover_cells cs))), rect-most (cover_of c), covers-few cs)
 
-abbrev is-kept : Covering → Bool
-is-kept (Kept n) = true
-is-kept (Refused c) = false
+abbrev is-kept : Result ℕ ℕ → Bool
+is-kept (Ok n) = true
+is-kept (Err c) = false
 
-module _ (across upward : Strip) (corners : List Float) (cells : List ℤ) (long : length cells ≡ 2048) (told : Covering) (e : told ≡ cover_answer across upward corners (length cells)) where
+module _ (across upward : Strip) (corners : List Float) (cells : List ℤ) (long : length cells ≡ 2048) where
   abbrev its : ℕ
   its = cover_cause across upward corners (length cells)
 
   -- a refusal
-  pub corners-refused : (c : ℕ) → told ≡ Refused c → corners_said across upward corners ≡ refused c
+  pub corners-refused : (c : ℕ) → Err c ≡ cover_answer across upward corners (length cells) → corners_said across upward corners ≡ refused c
   unfolding corners_said
-  corners-refused c f = go its refl
+  corners-refused c e = go its refl
     where
       go : (n : ℕ) → its ≡ n → corners_said across upward corners ≡ refused c
-      go zero z = clash refl (sym (ap is-kept (sym f ∙ (e ∙ (accepted-is across upward corners cells z).returned))))
+      go zero z = clash refl (sym (ap is-kept (e ∙ (accepted-is across upward corners cells z).returned)))
       go (suc n) z =
-          let q : c ≡ suc n = ap (λ (x : Covering). (cover_values x).number) (sym f ∙ (e ∙ (refused-is across upward corners cells n z).0)) in
+          let q : c ≡ suc n = ap (λ (x : Result ℕ ℕ). (cover_values x).number) (e ∙ (refused-is across upward corners cells n z).0) in
           rw (rw long at z) (ap refused (sym q))
 
-  module _ (n : ℕ) (f : told ≡ Kept n) (after : List ℤ) (g : after ≡ cover_after across upward corners cells) where
+  module _ (n : ℕ) (e : Ok n ≡ cover_answer across upward corners (length cells)) (after : List ℤ) (g : after ≡ cover_after across upward corners cells) where
     zero-cause : its ≡ 0
     zero-cause = go its refl
       where
         go : (m : ℕ) → its ≡ m → its ≡ 0
         go zero z = z
-        go (suc m) z = clash refl (ap is-kept (sym f ∙ (e ∙ (refused-is across upward corners cells m z).0)))
+        go (suc m) z = clash refl (ap is-kept (e ∙ (refused-is across upward corners cells m z).0))
 
     accepted : CoverAccepted (kept across upward corners) cells (cover_answer across upward corners (length cells)) (cover_after across upward corners cells)
     accepted = accepted-is across upward corners cells zero-cause
 
     many : n ≡ length (kept across upward corners)
-    many = ap (λ (x : Covering). (cover_values x).kept) (sym f ∙ (e ∙ accepted.returned))
+    many = ap (λ (x : Result ℕ ℕ). (cover_values x).kept) (e ∙ accepted.returned)
 
     pub kept_small : n ≤ 512
     kept_small = omega (arith, many, accepted.good.0)
@@ -122,7 +121,7 @@ module _ (across upward : Strip) (corners : List Float) (cells : List ℤ) (long
     kept-room out err r = omega (arith, lines-few, r.answer)
 
     pub kept-told : (out err last : List ℕ) (m : ℕ) → Room out err → Put out 0 lines last m
-        → Told (corners_said across upward corners) out err last err (record { status = 0; out = m; err = 0 })
+        → Told (corners_said across upward corners) out err last err (done_reply m)
     unfolding corners_said
     kept-told out err last m r p =
         told_same (done lines) out err last err _ (corners_said across upward corners) (told-done out err lines last m (omega (arith, lines-few, r.answer)) p)

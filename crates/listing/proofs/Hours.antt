@@ -32,15 +32,16 @@ use Rattle.rows.specs.inner.TableRows.{TableRows}
 use Rattle.windows.specs.declared.Window.{Window}
 use Rattle.windows.specs.Windows.{hours_of, shares_minute}
 use Rattle.timed.specs.Timed.{timed_table_of}
-use Rattle.paging.specs.declared.Run.{Run}
-use Rattle.paging.specs.declared.Run.TheVariants.{Refused, Done}
+use Rattle.paging.specs.Answers.{Run}
+use Rattle.std.specs.Prelude.{Err}
+use Rattle.paging.specs.Answers.{ran as told_run}
 use Rattle.paging.specs.Calls.{run_cause, run_call, run_table}
 use Rattle.printing.specs.Lines.{fields_end, row_line, total_line}
 use Rattle.printing.specs.inner.Parts.{FitsAt}
 use Rattle.printing.proofs.Lines.{total-few}
 use Rattle.reporting.specs.Report.{run_table_cells, run_work_cells, empty_table}
 use Rattle.reporting.proofs.Runs.{refusal}
-use Rattle.outcomes.specs.Outcomes.{Told, done, refused}
+use Rattle.outcomes.specs.Outcomes.{Told, done, refused, done_reply}
 use Rattle.outcomes.specs.inner.Rooms.{Room, room_for_all}
 use Rattle.outcomes.proofs.Outcomes.{told_same, told-done}
 use Rattle.listing.specs.Lines.{row_line_with}
@@ -96,13 +97,13 @@ ran s cells hours order lent run table sound o long e f =
 
 module _ (s : Shape) (cells : List ℤ) (hours : List ℕ) (run : Run) (table : List ℕ) (h : Ran (some hours) s cells run table) where
   -- what is said where it refuses
-  pub timed-refused : (c : ℕ) → run ≡ Refused c → timed_said s cells hours ≡ refused c
+  pub timed-refused : (c : ℕ) → run ≡ Err c → timed_said s cells hours ≡ refused c
   unfolding timed_said run_call
   timed-refused c e =
       refusal _ _ _ _ (done (hour_report s cells hours)) refused (run_cause (some hours) s cells (sweep_order (grown s cells)) empty_table run_work_cells) c
       (rw (same-cause (some hours) s cells h.lent h.long) at (sym e ∙ h.answer))
 
-  module _ (rows probes : ℕ) (area total : Total) (e : run ≡ Done rows probes area total) where
+  module _ (rows probes : ℕ) (area total : Total) (e : run ≡ told_run rows probes area total) where
     fin : Finished (some hours) s cells rows probes total table
     fin = finished (some hours) s cells h.sound h.lent h.long run table h.answer h.filled rows probes area total e
 
@@ -141,6 +142,6 @@ module _ (s : Shape) (cells : List ℤ) (hours : List ℕ) (run : Run) (table : 
     pub timed-room : (out err : List ℕ) → Room out err → FitsAt out 0 lines
     timed-room out err r = record { fits = omega (arith, lines-few, r.answer) }
 
-    pub timed-told : (out err after : List ℕ) (n : ℕ) → Room out err → Put out 0 lines after n → Told (timed_said s cells hours) out err after err (record { status = 0; out = n; err = 0 })
+    pub timed-told : (out err after : List ℕ) (n : ℕ) → Room out err → Put out 0 lines after n → Told (timed_said s cells hours) out err after err (done_reply n)
     timed-told out err after n r p =
         told_same (done lines) out err after err _ (timed_said s cells hours) (told-done out err lines after n (omega (arith, lines-few, r.answer)) p) timed-lines

@@ -13,8 +13,8 @@ use Rattle.plan.specs.Limits.{most_cells, most_rects}
 use Rattle.plan.specs.Plan.{count, Sound, grown}
 use Rattle.plan.proofs.Plan.{few}
 use Rattle.sweep.specs.Sweep.{sweep_order, order_after}
-use Rattle.text.specs.declared.Reading.{Reading}
-use Rattle.text.specs.Reader.{read_cause, read_answer, cells_after}
+use Rattle.text.specs.Reader.{ReadValues}
+use Rattle.text.specs.Reader.{read_cause, read_answer, read_values, cells_after}
 use Rattle.reporting.specs.inner.Parts.{plan_cells, Lent}
 use Rattle.reporting.proofs.Reports.{swept}
 use Rattle.reporting.proofs.Texts.{plan-lent, shape-read, first_read}
@@ -31,19 +31,19 @@ module _ (say : Shape → List ℤ → Outcome) (t : List ℕ) where
   said-refused (suc n) e h = rw (← e)
 
   -- .. of its plan
-  pub said-plan : (r : Reading) (lent : List ℤ) (order : List ℕ) → Prepared t r lent order → r.number ≡ 0 → on_plan say t ≡ say r.shape (plan_cells r.shape lent)
+  pub said-plan : (r : ReadValues) (lent : List ℤ) (order : List ℕ) → Prepared t r lent order → r.number ≡ 0 → on_plan say t ≡ say r.shape (plan_cells r.shape lent)
   unfolding on_plan
   said-plan r lent order p e = rw (sym p.cause ∙ e, p.cells e, p.shape e)
 
 -- ---- reading
 -- a text that is too long
-pub long-refused : (t : List ℕ) (r : Reading) (lent : List ℤ) (order : List ℕ) → 65536 < length t → r.number ≡ 13 → Prepared t r lent order
+pub long-refused : (t : List ℕ) (r : ReadValues) (lent : List ℤ) (order : List ℕ) → 65536 < length t → r.number ≡ 13 → Prepared t r lent order
 unfolding text_cause
 long-refused t r lent order h e =
     let no : r.number ≡ 0 → ⊥ = λ z. omega (arith, z, e) in
     record { cause = e ∙ rw (lt-leb (length t) 65536 h); ready = λ z. absurd (no z); shape = λ z. absurd (no z); cells = λ z. absurd (no z) }
 
-module _ (t : List ℕ) (cells : List ℤ) (r : Reading) (short : length t ≤ 65536) (long : length cells ≡ most_cells) (e : r ≡ read_answer (length cells) t) (f : r.number ≡ read_cause (length cells) t) where
+module _ (t : List ℕ) (cells : List ℤ) (r : ReadValues) (short : length t ≤ 65536) (long : length cells ≡ most_cells) (e : r ≡ read_values (read_answer (length cells) t)) (f : r.number ≡ read_cause (length cells) t) where
   read-cause : r.number ≡ text_cause t
   unfolding text_cause
   read-cause = rw (le-leb (length t) 65536 short) (rw long at f)
@@ -92,7 +92,7 @@ module _ (s : Shape) (lent : List ℤ) (n : ℕ) (e : n ≡ sum s.sizes) (h : Le
       }
 
 -- ---- a plan that is ready, n rectangles of four cells
-pub prepared-ready : (t : List ℕ) (r : Reading) (lent : List ℤ) (order : List ℕ) → Prepared t r lent order → r.number ≡ 0 → Ready r.shape lent order
+pub prepared-ready : (t : List ℕ) (r : ReadValues) (lent : List ℤ) (order : List ℕ) → Prepared t r lent order → r.number ≡ 0 → Ready r.shape lent order
 prepared-ready t r lent order p e = p.ready e
 
 module _ (s : Shape) (lent : List ℤ) (order : List ℕ) (h : Ready s lent order) (n : ℕ) (e : n ≡ sum s.sizes) where
@@ -107,3 +107,6 @@ module _ (s : Shape) (lent : List ℤ) (order : List ℕ) (h : Ready s lent orde
 
   pub ready-swept : take n order ≡ sweep_order (grown s (take (4 * n) lent))
   ready-swept = rw e h.swept
+
+  pub lent-said : (say : Shape → List ℤ → Outcome) → say s (plan_cells s lent) ≡ say s (take (4 * n) lent)
+  lent-said say = rw e

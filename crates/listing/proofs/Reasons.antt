@@ -3,8 +3,9 @@ use mathlib.Core.Path.{◌≡◌, refl, sym, ap, ◌∙◌}
 use mathlib.Core.List.{List, [], ◌∷◌, ◌++◌}
 use mathlib.Core.Bool.{Bool, true, false}
 use Prim.Native.Nat.{ℕ, suc, ◌-◌, ◌≤◌}
+use native.Mathlib.Omega.{arith}
 use lib.ListN.{length, take, drop}
-use borrow.Author.Tests.{eq-eqb, ne_eqb}
+use borrow.Author.Tests.{ne_eqb}
 use Rattle.lists.specs.inner.Stores.{Put}
 use Rattle.line.specs.Places.{starts_with}
 use Rattle.printing.specs.inner.Parts.{FitsAt}
@@ -12,8 +13,59 @@ use Rattle.outcomes.specs.Texts.{ascii, text_part}
 use Rattle.outcomes.proofs.Texts.{part-few}
 use Rattle.checking.specs.Reasons.{has, leading_zero, long_number, byte_order_mark}
 use Rattle.checking.specs.Places.{first_line, EndsAt}
-use Rattle.listing.specs.Reasons.{WINDOW, window_reasons, window_words, numbers_reason, fields_reason, word_reason, line_reason}
+use Rattle.listing.specs.declared.reason.Reason.{Reason}
+use Rattle.listing.specs.declared.reason.Reason.TheVariants as reason
+use Rattle.listing.specs.Reasons.{WINDOW, reason_number, window_reasons, window_words, numbers_reason, fields_reason, word_reason, line_reason}
 use Rattle.listing.specs.inner.Parts.{told_reason}
+
+-- only one reason has the number 1, only one the number 2, and none the number 0
+pub numbers_only : (e : Reason) → reason_number e ≡ 1 → e ≡ reason.OtherNumbers
+numbers_only reason.OtherNumbers h = refl
+numbers_only reason.WrongWindow h = absurd (omega (arith, h))
+numbers_only reason.ManyWindows h = absurd (omega (arith, h))
+numbers_only reason.FewWindows h = absurd (omega (arith, h))
+numbers_only reason.ByteOrderMark h = absurd (omega (arith, h))
+numbers_only reason.CarriageReturn h = absurd (omega (arith, h))
+numbers_only reason.BlankLine h = absurd (omega (arith, h))
+numbers_only reason.Space h = absurd (omega (arith, h))
+numbers_only reason.OtherWord h = absurd (omega (arith, h))
+numbers_only reason.Plus h = absurd (omega (arith, h))
+numbers_only reason.Point h = absurd (omega (arith, h))
+numbers_only reason.LeadingZero h = absurd (omega (arith, h))
+numbers_only reason.LongNumber h = absurd (omega (arith, h))
+numbers_only reason.NoLineEnd h = absurd (omega (arith, h))
+
+pub window_only : (e : Reason) → reason_number e ≡ 2 → e ≡ reason.WrongWindow
+window_only reason.WrongWindow h = refl
+window_only reason.OtherNumbers h = absurd (omega (arith, h))
+window_only reason.ManyWindows h = absurd (omega (arith, h))
+window_only reason.FewWindows h = absurd (omega (arith, h))
+window_only reason.ByteOrderMark h = absurd (omega (arith, h))
+window_only reason.CarriageReturn h = absurd (omega (arith, h))
+window_only reason.BlankLine h = absurd (omega (arith, h))
+window_only reason.Space h = absurd (omega (arith, h))
+window_only reason.OtherWord h = absurd (omega (arith, h))
+window_only reason.Plus h = absurd (omega (arith, h))
+window_only reason.Point h = absurd (omega (arith, h))
+window_only reason.LeadingZero h = absurd (omega (arith, h))
+window_only reason.LongNumber h = absurd (omega (arith, h))
+window_only reason.NoLineEnd h = absurd (omega (arith, h))
+
+pub number-above : (e : Reason) → reason_number e ≡ 0 → ⊥
+number-above reason.OtherNumbers h = omega (arith, h)
+number-above reason.WrongWindow h = omega (arith, h)
+number-above reason.ManyWindows h = omega (arith, h)
+number-above reason.FewWindows h = omega (arith, h)
+number-above reason.ByteOrderMark h = omega (arith, h)
+number-above reason.CarriageReturn h = omega (arith, h)
+number-above reason.BlankLine h = omega (arith, h)
+number-above reason.Space h = omega (arith, h)
+number-above reason.OtherWord h = omega (arith, h)
+number-above reason.Plus h = omega (arith, h)
+number-above reason.Point h = omega (arith, h)
+number-above reason.LeadingZero h = omega (arith, h)
+number-above reason.LongNumber h = omega (arith, h)
+number-above reason.NoLineEnd h = omega (arith, h)
 
 -- a test's result, and what it came to
 is : {test result v : Bool} → result ≡ test → result ≡ v → test ≡ v
@@ -97,23 +149,14 @@ module _ (l : List ℕ) where
         other-told t p = rw (is e f, is g h, is k m, is n t) p
 
   -- ---- what was found wrong, and what is told
-  pub told_same : (reason : ℕ) → (reason ≡ 1 → ⊥) → reason ≡ told_reason reason l
-  told_same reason h = rw (ne_eqb reason 1 h) refl
+  pub told_same : (e : Reason) → (e ≡ reason.OtherNumbers → ⊥) → reason_number e ≡ told_reason e l
+  told_same e h = rw (ne_eqb (reason_number e) 1 (λ z. h (numbers_only e z))) refl
 
-pub told_line : (t : List ℕ) (at end reason n : ℕ) → EndsAt t at end → reason ≡ 1 → n ≡ suc (line_reason (take (end - at) (drop at t)))
-    → n ≡ told_reason reason (first_line (drop at t))
-told_line t at end reason n l h e = rw (eq-eqb reason 1 h) (e ∙ ap (λ (b : List ℕ). suc (line_reason b)) l.bytes)
+pub told_line : (t : List ℕ) (at end : ℕ) (e r : Reason) → EndsAt t at end → e ≡ reason.OtherNumbers → reason_number r ≡ suc (line_reason (take (end - at) (drop at t)))
+    → reason_number r ≡ told_reason e (first_line (drop at t))
+told_line t at end e r l h f = rw h (f ∙ ap (λ (b : List ℕ). suc (line_reason b)) l.bytes)
 
 -- ---- the words
-pub words-few : (reason : ℕ) → length (window_words reason) ≤ 478
+pub words-few : (number : ℕ) → length (window_words number) ≤ 478
 unfolding window_words window_reasons
-words-few reason = part-few 10 reason window_reasons
-
-module _ (buf : List ℕ) (at reason : ℕ) (lines : List ℕ) (e : lines ≡ window_reasons) where
-  pub words-room : FitsAt buf at (window_words reason ++ 10 ∷ []) → FitsAt buf at (text_part 10 reason lines ++ 10 ∷ [])
-  unfolding window_words
-  words-room h = rw e h
-
-  pub words-put : (last : List ℕ) (r : ℕ) → Put buf at (text_part 10 reason lines ++ 10 ∷ []) last r → Put buf at (window_words reason ++ 10 ∷ []) last r
-  unfolding window_words
-  words-put last r p = rw e at p
+words-few number = part-few 10 number window_reasons

@@ -21,8 +21,8 @@ use Rattle.rows.specs.Tables.{rows_in, cells_of}
 use Rattle.rows.proofs.Tables.{cells-long}
 use Rattle.ground.specs.Union.{grounds}
 use Rattle.ground.proofs.Theorems.{union-holds}
-use Rattle.paging.specs.declared.Run.{Run}
-use Rattle.paging.specs.declared.Run.TheVariants.{Done}
+use Rattle.paging.specs.Answers.{Run}
+use Rattle.paging.specs.Answers.{ran}
 use Rattle.paging.specs.Overlays.{overlay_of}
 use Rattle.paging.specs.Pages.{room}
 use Rattle.paging.specs.Calls.{run_cause, run_call, run_table, ground_once}
@@ -66,7 +66,7 @@ module _ (windows : Option (List ℕ)) (s : Shape) (cells : List ℤ) where
 
   module _ (sound : Sound s cells) (lent : List ℕ) (long : length lent ≡ run_table_cells) (run : Run) (table : List ℕ)
       (answer : run ≡ run_call windows s cells order lent run_work_cells) (filled : table ≡ run_table windows s cells order lent run_work_cells)
-      (rows probes : ℕ) (area total : Total) (e : run ≡ Done rows probes area total) where
+      (rows probes : ℕ) (area total : Total) (e : run ≡ ran rows probes area total) where
     pub finished : Finished rows probes total table
     unfolding run_call
     finished =

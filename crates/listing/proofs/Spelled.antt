@@ -10,8 +10,7 @@ use lib.ListN.{length}
 use Rattle.lists.specs.Lists.{All, none_left, ◌and◌}
 use Rattle.windows.specs.declared.Window.{Window}
 use Rattle.windows.specs.Windows.{is_window}
-use Rattle.listing.specs.declared.Fault.{Fault}
-use Rattle.listing.specs.Windows.{WindowDue, window, wrong, window_due, fault_due, beyond, fault_from, hours_from}
+use Rattle.listing.specs.Windows.{WindowDue, window, wrong, FaultValues, window_due, fault_due, beyond, fault_from, hours_from}
 use Rattle.listing.specs.Spelled.{window_line, windows_text, window_cells, Spells, FirstWrong, WindowsTexts}
 use Rattle.listing.proofs.LineSpelled.{line_read, Spelled, due-spelled}
 
@@ -61,7 +60,7 @@ first-wrong (suc n) line t r e = go (window_due t) refl (due-spelled t) e (first
     go (wrong reason) k s h f = ([], t, record { stated = none_left; text = refl; named = omega arith; here = inl (omega arith, reason, k, refl) })
     go (window from to rest) k s h f = more-wrong (f rest r h)
       where
-        due-here : (m : ℕ) (v : Fault) (u : List ℕ)
+        due-here : (m : ℕ) (v : FaultValues) (u : List ℕ)
             → ((m < n) × (q : ℕ) × (window_due u ≡ wrong q) × (v.reason ≡ suc q)) ⊎ ((m ≡ n) × (0 < length u) × (v.reason ≡ beyond (window_due u)))
             → ((suc m < suc n) × (q : ℕ) × (window_due u ≡ wrong q) × (v.reason ≡ suc q)) ⊎ ((suc m ≡ suc n) × (0 < length u) × (v.reason ≡ beyond (window_due u)))
         due-here m v u (inl (l, q, i, j)) = inl (omega (arith, l), q, i, j)

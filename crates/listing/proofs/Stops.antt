@@ -1,5 +1,5 @@
 -- Laws of the command `cover`: the strips of its stops, and what is said of bytes.
-use mathlib.Core.Path.{◌≡◌, ap, ◌∙◌}
+use mathlib.Core.Path.{◌≡◌, refl, ap, ◌∙◌}
 use mathlib.Core.List.{List}
 use mathlib.Core.Bool.{Bool, true, false}
 use Prim.Native.Nat.{ℕ, ◌≤◌, ◌<◌}
@@ -10,29 +10,30 @@ use borrow.Author.Tests.{le-leb, lt-leb}
 use mir.Syntax.{w32}
 use mir.Val.{SFits, to_z, of_z}
 use mir.Facts.{to_z-of_z}
+use Rattle.std.specs.Prelude.{Option}
 use Rattle.lists.specs.inner.Stores.{Put}
 use Rattle.geometry.specs.declared.Rect.{Rect}
 use Rattle.survey.specs.declared.Strip.{Strip}
 use Rattle.outcomes.specs.Outcomes.{refused}
-use Rattle.survey.specs.declared.Strip.TheVariants.{From, To, Between}
 use Rattle.listing.proofs.Floats.{stored-first}
+use Rattle.listing.specs.inner.Parts.{stop_if, strip_between}
 use Rattle.listing.specs.Cover.{strip_of, float_of, floats_in, across_of, upward_of, corners_said, cover_said}
 
 -- ---- the strips of stops
-module _ (lower upper : Bool) (a b : Float) where
-  -- of whole numbers that are read back
-  pub strip-read : (l u : Bool) → lower ≡ l → upper ≡ u → {y z : ℤ} → SFits w32 y → SFits w32 z → a ≡ float_of (to_z w32 (of_z w32 y)) → b ≡ float_of (to_z w32 (of_z w32 z))
-      → (s : Strip) → s ≡ strip_of lower upper a b → s ≡ strip_of l u (float_of y) (float_of z)
-  strip-read l u p q fy fz e f s g = rw (g, p, q, e ∙ ap float_of (to_z-of_z fy), f ∙ ap float_of (to_z-of_z fz))
+strip-stops : (l u : Bool) (a b : Float) → strip_between (stop_if l a) (stop_if u b) ≡ strip_of l u a b
+strip-stops false false a b = refl
+strip-stops false true a b = refl
+strip-stops true false a b = refl
+strip-stops true true a b = refl
 
-  pub strip-both : lower ≡ true → upper ≡ true → Between a b ≡ strip_of lower upper a b
-  strip-both e f = rw (e, f)
-
-  pub strip-from : lower ≡ true → upper ≡ false → From a ≡ strip_of lower upper a b
-  strip-from e f = rw (e, f)
-
-  pub strip-to : lower ≡ false → upper ≡ true → To b ≡ strip_of lower upper a b
-  strip-to e f = rw (e, f)
+-- of whole numbers that are read back
+pub strip-read : (l u : Bool) {y z : ℤ} → SFits w32 y → SFits w32 z → (lower upper : Option Float) → lower ≡ stop_if l (float_of (to_z w32 (of_z w32 y)))
+    → upper ≡ stop_if u (float_of (to_z w32 (of_z w32 z))) → (s : Strip) → s ≡ strip_between lower upper → s ≡ strip_of l u (float_of y) (float_of z)
+strip-read l u {y} {z} fy fz lower upper e f s g =
+    let e' : lower ≡ stop_if l (float_of y) = e ∙ ap (λ (w : ℤ). stop_if l (float_of w)) (to_z-of_z fy) in
+    let f' : upper ≡ stop_if u (float_of z) = f ∙ ap (λ (w : ℤ). stop_if u (float_of w)) (to_z-of_z fz) in
+    let g' = rw (e', f') at g in
+    g' ∙ strip-stops l u (float_of y) (float_of z)
 
 -- ---- what is said of bytes
 pub stored-said : (across upward : Strip) (t : List ℕ) (first last : List Float) (r : ℕ) → length t ≤ 65536 → length first ≡ 8192 → Put first 0 (floats_in t) last r

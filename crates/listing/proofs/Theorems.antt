@@ -1,4 +1,5 @@
 -- The numbers behind the report's ROW lines are what the calls answer, and small texts are read as stated.
+use Rattle.std.specs.Prelude.{Some, Ok}
 use mathlib.Core.Path.{◌≡◌, refl}
 use mathlib.Core.List.{List}
 use mathlib.Core.Option.{some}
@@ -15,11 +16,9 @@ use Rattle.plan.proofs.Growing.{framed}
 use Rattle.join.specs.Table.{table_of, plan_table}
 use Rattle.join.proofs.Theorems.{tables}
 use Rattle.rows.proofs.Theorems as Row
-use Rattle.crossings.specs.declared.ClassAnswer.TheVariants.{Class}
 use Rattle.crossings.specs.Crossings.{class_in}
 use Rattle.crossings.specs.ClassCall.{crossing_cause, class_call}
 use Rattle.crossings.proofs.Theorems as Crossing
-use Rattle.windows.specs.declared.HoursAnswer.TheVariants.{Shared}
 use Rattle.windows.specs.Windows.{is_window, hours_of, shares_minute}
 use Rattle.windows.specs.HoursCall.{hours_cause, hours_call}
 use Rattle.timed.specs.Timed.{timed_table_of}
@@ -33,11 +32,11 @@ use Rattle.listing.specs.Windows.{window_due, fault_line}
 use Rattle.listing.specs.Theorems.{Listings}
 use Rattle.listing.proofs.Lines.{front, row-front, with-front}
 
-classes : (s : Shape) (cells : List ℤ) → Typed s → crossing_cause s cells ≡ 0 → All (λ row. class_call s cells row ≡ Class (class_in (layers s cells) row)) (plan_table s cells)
+classes : (s : Shape) (cells : List ℤ) → Typed s → crossing_cause s cells ≡ 0 → All (λ row. class_call s cells row ≡ Ok (Some (class_in (layers s cells) row))) (plan_table s cells)
 classes s cells typed passed = all-of-mem (plan_table s cells) (λ row m. (Crossing.row-class s cells typed passed row m).0)
 
 minutes : (s : Shape) (cells : List ℤ) (hours : List ℕ) → Sound s cells → hours_cause (some hours) s cells ≡ 0
-    → All (λ row. hours_call s cells hours row ≡ Shared (hours_of (sizes_of s) hours row).from (hours_of (sizes_of s) hours row).to) (timed_table_of (sizes_of s) (grown s cells) hours)
+    → All (λ row. hours_call s cells hours row ≡ Ok (Some (hours_of (sizes_of s) hours row))) (timed_table_of (sizes_of s) (grown s cells) hours)
 unfolding timed_table_of hours_call
 minutes s cells hours sound e =
     let t = tables.tables (sizes_of s) (grown s cells) (framed s cells sound).1 in

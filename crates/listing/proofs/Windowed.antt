@@ -5,38 +5,43 @@ use Prim.Native.Nat.{ℕ, zero, suc, ◌+◌, ◌-◌, ◌*◌, ◌≤◌, ◌<�
 use native.Mathlib.Omega.{arith}
 use lib.ListN.{length, set, take, drop, drop_of_length-le, length-drop}
 use lib.Seq.{take_at}
+use mathlib.Core.Bool.{Bool, true, false, cond}
+use lib.Dec.{eqb}
 use borrow.Author.Tests.{ne_eqb}
 use Rattle.lists.specs.inner.Stores.{Put}
 use Rattle.lists.proofs.Stores.{Left, left-all, left-byte, left-none, put-start}
-use Rattle.line.specs.Parsing.{next}
-use Rattle.listing.specs.declared.Taken.{Taken}
-use Rattle.listing.specs.declared.Taken.TheVariants.{Window, Wrong}
+use Rattle.std.specs.Prelude.{Result, Ok, Err}
+use Rattle.windows.specs.declared.Window.{Window}
+use Rattle.listing.specs.declared.reason.Reason.{Reason}
+use Rattle.listing.specs.declared.reason.Reason.TheVariants as reason
 use Rattle.listing.specs.declared.Fault.{Fault}
-use Rattle.listing.specs.Windows.{WindowDue, window, wrong, window_due, no_fault, fault_due, beyond, fault_from, hours_due, hours_from}
-use Rattle.listing.specs.inner.Parts.{Takes, ReadInto}
+use Rattle.listing.specs.Reasons.{reason_number}
+use Rattle.listing.specs.Windows.{FaultValues, WindowDue, window, wrong, window_due, fault_due, beyond, fault_from, hours_due, hours_from}
+use Rattle.listing.specs.inner.Parts.{Takes, Finds, ReadInto}
+use Rattle.listing.proofs.Reasons.{window_only}
 
 -- ---- a line behind the last window
 fault-beyond : (line : ℕ) (l : List ℕ) → 0 < length l → fault_from 0 line l ≡ record { reason = beyond (window_due l); line = line }
 fault-beyond line [] h = absurd (omega arith)
 fault-beyond line (b ∷ l) h = refl
 
-module _ (t l : List ℕ) (r : Taken) (k : Takes t (window_due l) r) where
+module _ (t l : List ℕ) (r : Result (Window × ℕ) Reason) (k : Takes t (window_due l) r) where
   -- a window
-  pub beyond-window : (from to next : ℕ) → r ≡ Window from to next → 3 ≡ beyond (window_due l)
-  beyond-window from to next e = let x : Takes t (window_due l) (Window from to next) = rw e at k in rw x.0
+  pub beyond-window : (p : Window × ℕ) → r ≡ Ok p → 3 ≡ beyond (window_due l)
+  beyond-window p e = let x : Takes t (window_due l) (Ok p) = rw e at k in rw x.0
 
   -- none, by what it is
-  module _ (reason : ℕ) (e : r ≡ Wrong reason) where
-    wrong-due : Takes t (window_due l) (Wrong reason)
-    wrong-due = rw e at k
+  pub beyond-stated : r ≡ Err reason.WrongWindow → 3 ≡ beyond (window_due l)
+  beyond-stated e =
+      let x : Takes t (window_due l) (Err reason.WrongWindow) = rw e at k in
+      let n : x.0 ≡ 1 = omega (arith, x.1) in
+      rw (x.2, n)
 
-    pub beyond-stated : reason ≡ 2 → 3 ≡ beyond (window_due l)
-    beyond-stated h = let n : wrong-due.0 ≡ 1 = omega (arith, h, wrong-due.1) in rw (wrong-due.2, n)
-
-    pub beyond-formed : (reason ≡ 2 → ⊥) → reason ≡ beyond (window_due l)
-    beyond-formed h =
-        let n : wrong-due.0 ≡ 1 → ⊥ = λ g. h (omega (arith, g, wrong-due.1)) in
-        rw (wrong-due.2, ne_eqb wrong-due.0 1 n) wrong-due.1
+  pub beyond-formed : (x : Reason) → r ≡ Err x → (x ≡ reason.WrongWindow → ⊥) → reason_number x ≡ beyond (window_due l)
+  beyond-formed x e h =
+      let y : Takes t (window_due l) (Err x) = rw e at k in
+      let n : y.0 ≡ 1 → ⊥ = λ g. h (window_only x (omega (arith, g, y.1))) in
+      rw (y.2, ne_eqb y.0 1 n) y.1
 
 -- ---- line after line: i windows are read, and the text goes on at `at`
 module _ (t : List ℕ) (n : ℕ) (first : List ℕ) where
@@ -50,7 +55,7 @@ module _ (t : List ℕ) (n : ℕ) (first : List ℕ) where
   none-windowed = let z : n - 0 ≡ n = omega arith in record { few = omega arith; inside = omega arith; fault = rw z; left = rw z (left-all _ _ _) }
 
   module _ (hours : List ℕ) (at i : ℕ) (w : Windowed hours at i) where
-    module _ (h : i < n) (r : Taken) (k : Takes t (window_due (drop at t)) r) where
+    module _ (h : i < n) (r : Result (Window × ℕ) Reason) (k : Takes t (window_due (drop at t)) r) where
       abbrev more : ℕ
       more = n - (i + 1)
 
@@ -58,8 +63,8 @@ module _ (t : List ℕ) (n : ℕ) (first : List ℕ) where
       one_more = omega arith
 
       -- something is wrong
-      pub wrong-here : (reason : ℕ) → r ≡ Wrong reason → ReadInto t n first (record { reason = reason; line = i + 1 }) hours
-      wrong-here reason e =
+      pub wrong-here : (e' : Reason) → r ≡ Err e' → ReadInto t n first (Err (record { reason = e'; line = i + 1 })) hours
+      wrong-here e' e =
           let x = rw e at k in
           let l : i + 1 ≡ suc i = omega arith in
           record {
@@ -69,11 +74,11 @@ module _ (t : List ℕ) (n : ℕ) (first : List ℕ) where
           }
 
       -- a window
-      module _ (from to next : ℕ) (e : r ≡ Window from to next) where
-        here : (window_due (drop at t) ≡ window from to (drop next t)) × (next ≤ length t)
+      module _ (p : Window × ℕ) (e : r ≡ Ok p) where
+        here : (window_due (drop at t) ≡ window p.0.from p.0.to (drop p.1 t)) × (p.1 ≤ length t)
         here = rw e at k
 
-        pub one-windowed : Windowed (set (set hours (2 * i) from) (2 * i + 1) to) next (i + 1)
+        pub one-windowed : Windowed (set (set hours (2 * i) p.0.from) (2 * i + 1) p.0.to) p.1 (i + 1)
         one-windowed =
             let a : 2 * (i + 1) ≡ 2 * i + 1 + 1 = omega arith in
             let l : suc (i + 1) ≡ suc (suc i) = omega arith in
@@ -81,7 +86,7 @@ module _ (t : List ℕ) (n : ℕ) (first : List ℕ) where
               few = omega arith;
               inside = here.1;
               fault = rw l (rw (one_more, here.0) at w.fault);
-              left = rw a (left-byte _ _ _ _ _ to _ (left-byte _ _ _ _ _ from _ (rw (one_more, here.0) at w.left)));
+              left = rw a (left-byte _ _ _ _ _ p.0.to _ (left-byte _ _ _ _ _ p.0.from _ (rw (one_more, here.0) at w.left)));
             }
 
     module _ (h : n ≤ i) where
@@ -92,15 +97,15 @@ module _ (t : List ℕ) (n : ℕ) (first : List ℕ) where
       all-stored = left-none _ _ _ _ _ (rw none_more at w.left)
 
       -- more lines
-      pub line-over : (reason : ℕ) → at < length t → reason ≡ beyond (window_due (drop at t)) → ReadInto t n first (record { reason = reason; line = i + 1 }) hours
-      line-over reason l e =
+      pub line-over : (x : Reason) → at < length t → reason_number x ≡ beyond (window_due (drop at t)) → ReadInto t n first (Err (record { reason = x; line = i + 1 })) hours
+      line-over x l e =
           let k : i + 1 ≡ suc i = omega arith in
           let f : fault_from 0 (suc i) (drop at t) ≡ fault_from n 1 t = rw none_more at w.fault in
           let g = fault-beyond (suc i) (drop at t) (omega (arith, length-drop at t)) in
           record { fault = rw (e, k) (sym g ∙ f); reached = 2 * i; stored = all-stored }
 
-      pub all-windowed : length t ≤ at → ReadInto t n first no_fault hours
-      all-windowed l = record { fault = rw (none_more, drop_of_length-le t l) at w.fault; reached = 2 * i; stored = all-stored }
+      pub all-windowed : length t ≤ at → ReadInto t n first (Ok tt) hours
+      all-windowed l = record { fault = sym (rw (none_more, drop_of_length-le t l) at w.fault); reached = 2 * i; stored = all-stored }
 
 -- ---- the windows of a text without a fault
 hours-long : (n line : ℕ) (t : List ℕ) → (fault_from n line t).reason ≡ 0 → length (hours_from n t) ≡ 2 * n
@@ -110,11 +115,11 @@ hours-long (suc n) line t e = go (window_due t) e (hours-long n (suc line))
     go : (d : WindowDue) → (fault_due d line (fault_from n (suc line))).reason ≡ 0 → ((u : List ℕ) → (fault_from n (suc line) u).reason ≡ 0 → length (hours_from n u) ≡ 2 * n)
         → length (hours_due d (hours_from n)) ≡ 2 * suc n
     go (window from to rest) q f = omega (arith, f rest q)
-    go (wrong reason) q f = absurd (omega (arith, q))
+    go (wrong r) q f = absurd (omega (arith, q))
 
-module _ (t : List ℕ) (n : ℕ) (first : List ℕ) (f : Fault) (hours : List ℕ) (r : ReadInto t n first f hours) (z : f.reason ≡ 0) (room : 2 * n ≤ length first) where
+module _ (t : List ℕ) (n : ℕ) (first : List ℕ) (a : Result (Unit {0}) Fault) (hours : List ℕ) (r : ReadInto t n first a hours) (u : Unit {0}) (z : a ≡ Ok u) (room : 2 * n ≤ length first) where
   long : length (hours_from n t) ≡ 2 * n
-  long = hours-long n 1 t (sym (ap (λ (x : Fault). x.reason) r.fault) ∙ z)
+  long = let f : Finds (fault_from n 1 t) (Ok u) = rw z at r.fault in hours-long n 1 t (ap (λ (x : FaultValues). x.reason) f)
 
   pub hours-read : take (2 * n) hours ≡ hours_from n t
   hours-read = rw (put-start first hours (hours_from n t) r.reached (omega (arith, long)) r.stored) (take_at (hours_from n t) (drop (length (hours_from n t)) first) (2 * n) long)

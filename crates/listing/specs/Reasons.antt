@@ -4,10 +4,29 @@ use Rattle.std.specs.Prelude.{List, [], ◌∷◌, ◌++◌, cond, ℕ}
 use Rattle.line.specs.Places.{starts_with}
 use Rattle.outcomes.specs.Texts.{ascii, text_part}
 use Rattle.checking.specs.Reasons.{has, leading_zero, long_number, byte_order_mark}
+use Rattle.listing.specs.declared.reason.Reason.{Reason}
+use Rattle.listing.specs.declared.reason.Reason.TheVariants as reason
 
 -- the word WINDOW and its tab
 abbrev pub WINDOW : List ℕ
 WINDOW = 87 ∷ 73 ∷ 78 ∷ 68 ∷ 79 ∷ 87 ∷ 9 ∷ []
+
+-- the number of each; 0 stands for nothing wrong
+abbrev pub reason_number : Reason → ℕ
+reason_number reason.OtherNumbers = 1
+reason_number reason.WrongWindow = 2
+reason_number reason.ManyWindows = 3
+reason_number reason.FewWindows = 4
+reason_number reason.ByteOrderMark = 5
+reason_number reason.CarriageReturn = 6
+reason_number reason.BlankLine = 7
+reason_number reason.Space = 8
+reason_number reason.OtherWord = 9
+reason_number reason.Plus = 10
+reason_number reason.Point = 11
+reason_number reason.LeadingZero = 12
+reason_number reason.LongNumber = 13
+reason_number reason.NoLineEnd = 14
 
 -- the words, a line each, by number; 0 has none
 unfoldable pub window_reasons : List ℕ
@@ -28,8 +47,8 @@ window_reasons =
     ++ ascii "a number of nine digits or more\n"
     ++ ascii "no line end at the end of the text\n"
 
-unfoldable pub window_words : (reason : ℕ) → List ℕ
-window_words reason = text_part 10 reason window_reasons
+unfoldable pub window_words : (number : ℕ) → List ℕ
+window_words number = text_part 10 number window_reasons
 
 -- ---- a line that is not well formed: the number of its words, less one
 -- what is wrong with its numbers

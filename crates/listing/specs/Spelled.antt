@@ -5,9 +5,8 @@ use Rattle.lists.specs.Lists.{All}
 use Rattle.line.specs.Lines.{put_field}
 use Rattle.windows.specs.declared.Window.{Window}
 use Rattle.windows.specs.Windows.{is_window}
-use Rattle.listing.specs.declared.Fault.{Fault}
 use Rattle.listing.specs.Reasons.{WINDOW}
-use Rattle.listing.specs.Windows.{wrong, window_due, beyond, fault_from, hours_from}
+use Rattle.listing.specs.Windows.{FaultValues, wrong, window_due, beyond, fault_from, hours_from}
 
 -- the line of a window, and the bytes behind it
 abbrev pub window_line : (from to : ℕ) → List ℕ → List ℕ
@@ -33,7 +32,7 @@ pub record Spells (n : ℕ) (t : List ℕ) (ws : List Window) : Type 0 where
   pub text : t ≡ windows_text ws
 
 -- a text of n windows, read from a line on, is wrong first in the line behind these: there a window is due and none stands, or none is due and bytes are left
-pub record FirstWrong (n line : ℕ) (t : List ℕ) (f : Fault) (ws : List Window) (rest : List ℕ) : Type 0 where
+pub record FirstWrong (n line : ℕ) (t : List ℕ) (f : FaultValues) (ws : List Window) (rest : List ℕ) : Type 0 where
   pub stated : All (λ w. is_window w ≡ true) ws
   pub text : t ≡ windows_then ws rest
   pub named : f.line ≡ line + length ws

@@ -1,6 +1,6 @@
 -- Theorem: what the numbers are that the commands `classes` and `hours` put behind the report's ROW lines, and small texts and what is said of them. Proved in
 -- proofs/Theorems.antt.
-use Rattle.std.specs.Prelude.{◌≡◌, List, [], ◌∷◌, ◌++◌, map, ℕ, ℤ}
+use Rattle.std.specs.Prelude.{◌≡◌, List, [], ◌∷◌, ◌++◌, map, ℕ, ℤ, Some, Ok}
 use Rattle.std.proofs.Math.Option.{some}
 use Prim.Native.String.{String}
 use Rattle.std.specs.Float.{binary64, nan}
@@ -10,10 +10,8 @@ use Rattle.decimal.specs.Numerals.{decimal}
 use Rattle.plan.specs.declared.Shape.{Shape}
 use Rattle.plan.specs.Plan.{Layer, sizes_of, layers, grown, Typed, Sound}
 use Rattle.join.specs.Table.{plan_table}
-use Rattle.crossings.specs.declared.ClassAnswer.TheVariants.{Class}
 use Rattle.crossings.specs.Crossings.{class_in}
 use Rattle.crossings.specs.ClassCall.{crossing_cause, class_call}
-use Rattle.windows.specs.declared.HoursAnswer.TheVariants.{Shared}
 use Rattle.windows.specs.Windows.{hours_of}
 use Rattle.windows.specs.HoursCall.{hours_cause, hours_call}
 use Rattle.timed.specs.Timed.{timed_table_of}
@@ -33,10 +31,10 @@ pub record Listings : Type 0 where
       → (front : List ℕ) × (row_line ls row ≡ front ++ 10 ∷ []) × (row_line_with more ls row ≡ front ++ fields_end (map decimal (more row)))
   -- the class behind each row of the table is what the class call answers for it
   pub classes : (s : Shape) (cells : List ℤ) → Typed s → crossing_cause s cells ≡ 0
-      → All (λ row. class_call s cells row ≡ Class (class_in (layers s cells) row)) (plan_table s cells)
+      → All (λ row. class_call s cells row ≡ Ok (Some (class_in (layers s cells) row))) (plan_table s cells)
   -- the minutes behind each row of the timed table are what the call for a row's hours answers for it
   pub minutes : (s : Shape) (cells : List ℤ) (hours : List ℕ) → Sound s cells → hours_cause (some hours) s cells ≡ 0
-      → All (λ row. hours_call s cells hours row ≡ Shared (hours_of (sizes_of s) hours row).from (hours_of (sizes_of s) hours row).to)
+      → All (λ row. hours_call s cells hours row ≡ Ok (Some (hours_of (sizes_of s) hours row)))
       (timed_table_of (sizes_of s) (grown s cells) hours)
   -- classes without rows have no line
   pub counts : class_lines 0 (0 ∷ 3 ∷ 0 ∷ 12 ∷ []) ≡ ascii "CLASS\t1\t3\nCLASS\t3\t12\n"

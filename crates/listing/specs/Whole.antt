@@ -21,11 +21,10 @@ use Rattle.reporting.specs.Report.{run_work_cells, empty_table}
 use Rattle.survey.specs.CoverCall.{cover_cause}
 use Rattle.outcomes.specs.Texts.{ascii}
 use Rattle.outcomes.specs.Outcomes.{Outcome, refused, refused_with}
-use Rattle.listing.specs.declared.Fault.{Fault}
 use Rattle.listing.specs.Lines.{classed_lines, class_lines}
 use Rattle.listing.specs.Plans.{text_cause, on_plan}
 use Rattle.listing.specs.Classes.{plan_classes}
-use Rattle.listing.specs.Windows.{fault_from, hours_from, fault_line}
+use Rattle.listing.specs.Windows.{FaultValues, fault_from, hours_from, fault_line}
 use Rattle.listing.specs.Hours.{hour_lines, plan_hours}
 use Rattle.listing.specs.Cover.{floats_in, across_of, upward_of, layer_text, cover_said}
 
@@ -58,7 +57,7 @@ module _ (s : Shape) (cells : List ℤ) where
   -- ---- `hours`, with a windows text
   module _ (windows : List ℕ) where
     -- what is wrong in it, its windows, and the timed run's cause
-    abbrev pub fault : Fault
+    abbrev pub fault : FaultValues
     fault = fault_from (sum s.sizes) 1 windows
 
     abbrev pub hours : List ℕ

@@ -10,7 +10,7 @@ use Rattle.outcomes.specs.Texts.{ascii}
 use Rattle.outcomes.specs.Outcomes.{error_line}
 use Rattle.checking.specs.Places.{first_line}
 use Rattle.listing.specs.declared.Fault.{Fault}
-use Rattle.listing.specs.Reasons.{WINDOW, window_words, line_reason}
+use Rattle.listing.specs.Reasons.{WINDOW, reason_number, window_words, line_reason}
 
 -- the two fields of a WINDOW line
 abbrev pub window_fields : List ℕ → Reading (ℤ × ℤ)
@@ -55,12 +55,21 @@ window_due [] = wrong 3
 window_due (b ∷ t) = reasoned (line_reason (first_line (b ∷ t))) (line_due (b ∷ t))
 
 -- ---- a whole text, from a line on, with `due` windows to come
+-- what is wrong, by the number of its words, and in which line; the number 0 where nothing is
+pub record FaultValues : Type 0 where
+  pub reason : ℕ
+  pub line : ℕ
+
+-- a fault, its reason by that number
+abbrev pub fault_told : Fault → FaultValues
+fault_told f = record { reason = reason_number f.reason; line = f.line }
+
 -- nothing is wrong
-abbrev pub no_fault : Fault
+abbrev pub no_fault : FaultValues
 no_fault = record { reason = 0; line = 0 }
 
 -- the fault of a line, where it has one; else that of the bytes behind it
-abbrev pub fault_due : WindowDue → (line : ℕ) → (List ℕ → Fault) → Fault
+abbrev pub fault_due : WindowDue → (line : ℕ) → (List ℕ → FaultValues) → FaultValues
 fault_due (window from to rest) line behind = behind rest
 fault_due (wrong reason) line behind = record { reason = suc reason; line = line }
 
@@ -70,7 +79,7 @@ beyond (window from to rest) = 3
 beyond (wrong reason) = cond (eqb reason 1) 3 (suc reason)
 
 -- what is wrong, by the number of its words, and in which line first: 3 there are more windows than rectangles, 4 fewer
-abbrev pub fault_from : (due line : ℕ) → List ℕ → Fault
+abbrev pub fault_from : (due line : ℕ) → List ℕ → FaultValues
 fault_from zero line [] = no_fault
 fault_from zero line (b ∷ t) = record { reason = beyond (window_due (b ∷ t)); line = line }
 fault_from (suc due) line t = fault_due (window_due t) line (fault_from due (suc line))
@@ -86,5 +95,5 @@ hours_from zero t = []
 hours_from (suc due) t = hours_due (window_due t) (hours_from due)
 
 -- the line on standard error
-unfoldable pub fault_line : Fault → List ℕ
+unfoldable pub fault_line : FaultValues → List ℕ
 fault_line f = error_line (ascii "windows, line " ++ (decimal f.line ++ (ascii ": " ++ window_words f.reason)))

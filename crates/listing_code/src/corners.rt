@@ -5,32 +5,21 @@ ghost use Rattle.std.specs.Float.Ieee.{of_bits};
 ghost use Rattle.lists.specs.inner.Stores.{Put};
 ghost use Rattle.listing.specs.Cover.{word_of, float_at, floats_in};
 
-// A byte as a number.
-fn wide(b: u8) -> u64
-    ensures { (result ≡ b) × (result < 256) }
-{
-    b as u64
-}
-
 // Eight bytes at a place as a number.
 fn word_at(t: &[u8], at: usize) -> u64
     requires { at + 8 ≤ length t.now }
     ensures { result ≡ word_of (take 8 (drop at t.now)) }
 {
-    let mut v: u64 = 0;
-    let mut i: usize = 8;
-    while 0 < i {
-        i -= 1;
-        v = v * 256 + wide(t[at + i]);
-    }
-    v
-}
-
-// The float that is no number.
-fn no_number() -> f64
-    ensures { result ≡ nan }
-{
-    0.0 / 0.0
+    u64::from_le_bytes([
+        t[at],
+        t[at + 1],
+        t[at + 2],
+        t[at + 3],
+        t[at + 4],
+        t[at + 5],
+        t[at + 6],
+        t[at + 7],
+    ])
 }
 
 // The float of a pattern.
@@ -38,7 +27,7 @@ fn float_of(bits: u64) -> f64
     ensures { result ≡ of_bits binary64 bits }
 {
     if 0x7ff0_0000_0000_0000 < bits % 0x8000_0000_0000_0000 {
-        return no_number();
+        return f64::NAN;
     }
     f64::from_bits(bits)
 }
@@ -50,7 +39,7 @@ fn float_at(t: &[u8], i: usize) -> f64
 {
     let at = 8 * i;
     if t.len() < at + 8 {
-        return no_number();
+        return f64::NAN;
     }
     float_of(word_at(t, at))
 }
@@ -60,11 +49,9 @@ pub fn put_floats(t: &[u8], corners: &mut [f64]) -> usize
     requires { (length t.now ≤ 65536) × (length corners.old ≡ 8192) }
     ensures { Put corners.old 0 (floats_in t.now) corners.new result }
 {
-    let n = (t.len() + 7) / 8;
-    let mut i: usize = 0;
-    while i < n {
+    let n = t.len().div_ceil(8);
+    for i in 0..n {
         corners[i] = float_at(t, i);
-        i += 1;
     }
     n
 }

@@ -2,13 +2,14 @@
 ghost use Rattle.std.specs.Prelude.{◌≡◌, ◌/◌, ◌%◌, ◌<◌, ◌≤◌, length};
 ghost use Rattle.outcomes.specs.Outcomes.{Told};
 ghost use Rattle.outcomes.specs.inner.Rooms.{Room};
-ghost use Rattle.listing.specs.Cover.{floats_in, float_of, strip_of, is_given, across_of, upward_of, corners_said};
+ghost use Rattle.listing.specs.Cover.{floats_in, float_of, is_given, across_of, upward_of, corners_said};
+ghost use Rattle.listing.specs.inner.Parts.{stop_if, strip_between};
 
 use crate::corners::put_floats;
 use geometry::Rect;
 use outcomes::Reply;
 use outcomes_code::put_refusal;
-use survey::{Covering, Strip};
+use survey::Strip;
 use survey_code::cover_records;
 use writer::put_layer;
 
@@ -18,35 +19,27 @@ const MOST_FLOATS: usize = 8192;
 // The cells of the longest layer.
 const LAYER_CELLS: usize = 2048;
 
-// Whether the stop of a weight is given.
-fn is_given(given: u32, weight: u32) -> bool
+// The stop of a weight, where it is given.
+fn stop_of(given: u32, weight: u32, z: i32) -> Option<f64>
     requires { 0 < weight }
-    ensures { result ≡ is_given given weight }
+    ensures { result ≡ stop_if (is_given given weight) (float_of z) }
 {
-    given / weight % 2 == 1
+    if given / weight % 2 == 1 {
+        return Some(z as f64);
+    }
+    None
 }
 
-// A whole number as a float.
-fn float_of_number(z: i32) -> f64
-    ensures { result ≡ float_of z }
+// The strip of the stops that there are.
+fn strip_of(lower: Option<f64>, upper: Option<f64>) -> Strip
+    ensures { result ≡ strip_between lower upper }
 {
-    z as f64
-}
-
-// The strip of a lower and an upper stop, each where it is given.
-fn strip_of(lower: bool, upper: bool, a: f64, b: f64) -> Strip
-    ensures { result ≡ strip_of lower upper a b }
-{
-    if lower {
-        if upper {
-            return Strip::Between(a, b);
-        }
-        return Strip::From(a);
+    match (lower, upper) {
+        (Some(a), Some(b)) => Strip::Between(a, b),
+        (Some(a), None) => Strip::From(a),
+        (None, Some(b)) => Strip::To(b),
+        (None, None) => Strip::Free,
     }
-    if upper {
-        return Strip::To(b);
-    }
-    Strip::Free
 }
 
 // The strip of the left and the right stop.
@@ -54,10 +47,8 @@ pub fn across_of(stops: Rect, given: u32) -> Strip
     ensures { result ≡ across_of stops given }
 {
     strip_of(
-        is_given(given, 1),
-        is_given(given, 4),
-        float_of_number(stops.left),
-        float_of_number(stops.right),
+        stop_of(given, 1, stops.left),
+        stop_of(given, 4, stops.right),
     )
 }
 
@@ -66,10 +57,8 @@ pub fn upward_of(stops: Rect, given: u32) -> Strip
     ensures { result ≡ upward_of stops given }
 {
     strip_of(
-        is_given(given, 2),
-        is_given(given, 8),
-        float_of_number(stops.bottom),
-        float_of_number(stops.top),
+        stop_of(given, 2, stops.bottom),
+        stop_of(given, 8, stops.top),
     )
 }
 
@@ -136,15 +125,10 @@ fn cover_cells(
         out.old err.old out.new err.new result }
 {
     match cover_records(across, upward, corners, cells) {
-        Covering::Refused(cause) => put_refusal(out, err, cause),
-        Covering::Kept(n) => {
+        Err(cause) => put_refusal(out, err, cause),
+        Ok(n) => {
             let m = 4 * n;
-            let size = put_layer(out, 0, n as u32, 0, &cells[..m]);
-            Reply {
-                status: 0,
-                out: size,
-                err: 0,
-            }
+            Reply::done(put_layer(out, 0, n as u32, 0, &cells[..m]))
         }
     }
 }

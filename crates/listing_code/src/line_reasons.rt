@@ -1,90 +1,68 @@
-// What is wrong with a line of a windows text that is not well formed, by the number of its words.
+// What is wrong with a line of a windows text that is not well formed.
 ghost use Rattle.std.specs.Prelude.{◌≡◌, suc};
-ghost use Rattle.listing.specs.Reasons.{numbers_reason, fields_reason, word_reason, line_reason};
+ghost use Rattle.listing.specs.Reasons.{reason_number, numbers_reason, fields_reason, word_reason, line_reason};
 
 use checking_code::{has, leading_zero, long_number};
 use lexer::starts;
-
-// The numbers, in the order of the words.
-const NUMBERS: u32 = 1;
-
-const MARK: u32 = 5;
-
-const RETURN: u32 = 6;
-
-const BLANK: u32 = 7;
-
-const SPACE: u32 = 8;
-
-const WORD: u32 = 9;
-
-const PLUS: u32 = 10;
-
-const POINT: u32 = 11;
-
-const LEADING_ZERO: u32 = 12;
-
-const LONG_NUMBER: u32 = 13;
-
-const NO_END: u32 = 14;
+use listing::Reason;
 
 // What is wrong with the numbers of a line.
-fn numbers_reason(l: &[u8]) -> u32
-    ensures { result ≡ suc (numbers_reason l.now) }
+fn numbers_reason(l: &[u8]) -> Reason
+    ensures { reason_number result ≡ suc (numbers_reason l.now) }
 {
     if leading_zero(l) {
-        return LEADING_ZERO;
+        return Reason::LeadingZero;
     }
     if long_number(l) {
-        return LONG_NUMBER;
+        return Reason::LongNumber;
     }
     if has(l, 0, b'\n') {
-        return NUMBERS;
+        return Reason::OtherNumbers;
     }
-    NO_END
+    Reason::NoLineEnd
 }
 
 // What is wrong with a line behind its word and tab.
-fn fields_reason(l: &[u8]) -> u32
-    ensures { result ≡ suc (fields_reason l.now) }
+fn fields_reason(l: &[u8]) -> Reason
+    ensures { reason_number result ≡ suc (fields_reason l.now) }
 {
     if has(l, 0, b' ') {
-        return SPACE;
+        return Reason::Space;
     }
     if has(l, 0, b'+') {
-        return PLUS;
+        return Reason::Plus;
     }
     if has(l, 0, b'.') {
-        return POINT;
+        return Reason::Point;
     }
     numbers_reason(l)
 }
 
 // What is wrong with a line whose word is another.
-fn word_reason(l: &[u8]) -> u32
-    ensures { result ≡ suc (word_reason l.now) }
+fn word_reason(l: &[u8]) -> Reason
+    ensures { reason_number result ≡ suc (word_reason l.now) }
 {
     if starts(l, 0, b" ") {
-        return SPACE;
+        return Reason::Space;
     }
     if starts(l, 0, b"WINDOW ") {
-        return SPACE;
+        return Reason::Space;
     }
-    WORD
+    Reason::OtherWord
 }
 
 // What is wrong with a line.
-pub fn line_reason(l: &[u8]) -> u32
-    ensures { result ≡ suc (line_reason l.now) }
+pub fn line_reason(l: &[u8]) -> Reason
+    ensures { reason_number result ≡ suc (line_reason l.now) }
 {
     if starts(l, 0, b"\xef\xbb\xbf") {
-        return MARK;
+        return Reason::ByteOrderMark;
     }
     if has(l, 0, b'\r') {
-        return RETURN;
+        return Reason::CarriageReturn;
     }
     if starts(l, 0, b"\n") {
-        return BLANK;
+        return Reason::BlankLine;
     }
     if starts(l, 0, b"WINDOW\t") {
         return fields_reason(l);

@@ -1,70 +1,19 @@
 // The lines of the command `classes`, put into a buffer at a place.
-ghost use Rattle.std.specs.Prelude.{◌≡◌, true, [], ◌∷◌, ◌++◌, ◌≤◌, length, take};
+ghost use Rattle.std.specs.Prelude.{[], ◌∷◌, ◌++◌, ◌≤◌, length, take};
 ghost use Rattle.decimal.specs.Numerals.{decimal};
 ghost use Rattle.lists.specs.inner.Stores.{Put};
 ghost use Rattle.plan.specs.Plan.{layers_of};
-ghost use Rattle.plan.specs.Frames.{Framed};
-ghost use Rattle.rows.specs.RowCall.{is_row};
 ghost use Rattle.rows.specs.Tables.{rows_in};
 ghost use Rattle.rows.specs.inner.TableRows.{TableRows};
 ghost use Rattle.totals.specs.Totals.{Kept};
 ghost use Rattle.printing.specs.Lines.{fields_end, line_of, total_line};
 ghost use Rattle.printing.specs.inner.Parts.{FitsAt};
-ghost use Rattle.listing.specs.Lines.{CLASS, classed_line, classed_lines, class_line, class_lines};
+ghost use Rattle.listing.specs.Lines.{CLASS, classed_lines, class_line, class_lines};
 
-use crossings_code::row_class;
-use plan::MOST_LAYERS;
-use printing_code::{put_field, put_joined, put_last, put_total};
-use rows_code::row_at;
+use crate::class_rows::put_class_rows;
+use printing_code::{put_field, put_last, put_total};
 use speller::put_word;
 use totals::Total;
-
-// The ROW line of a row of the first k layers' join, with its class; the place behind it. The cells are grown, and no rectangle is grown again.
-fn put_classed(
-    buf: &mut [u8],
-    at: usize,
-    sizes: &[u32],
-    k: usize,
-    cells: &[i32],
-    row: &[u32],
-) -> usize
-    requires k_in_bounds { (k ≤ length sizes.now) × Framed (take k sizes.now) cells.now × (3 ≤ k) }
-    requires row_value { is_row (layers_of (take k sizes.now) cells.now) row.now ≡ true }
-    requires fits_at { FitsAt buf.old at (classed_line (layers_of (take k sizes.now) cells.now) row.now) }
-    ensures { Put buf.old at
-        (classed_line (layers_of (take k sizes.now) cells.now) row.now) buf.new result }
-{
-    let end = put_joined(buf, at, sizes, k, cells, row);
-    let none = [0u32; MOST_LAYERS];
-    let class = row_class(sizes, &none, k, cells, row);
-    put_last(buf, end - 1, class as u64)
-}
-
-// The ROW lines of the first n rows of a table, each with its class; the place behind them.
-fn put_class_rows(
-    buf: &mut [u8],
-    from: usize,
-    sizes: &[u32],
-    k: usize,
-    cells: &[i32],
-    table: &[u32],
-    n: usize,
-) -> usize
-    requires table_rows { TableRows sizes.now k cells.now table.now n × (3 ≤ k) }
-    requires fits_at { FitsAt buf.old from (classed_lines (layers_of (take k sizes.now) cells.now) (rows_in k n table.now)) }
-    ensures { Put buf.old from
-        (classed_lines (layers_of (take k sizes.now) cells.now) (rows_in k n table.now)) buf.new result }
-{
-    let mut at = from;
-    let mut start: usize = 0;
-    let mut i: usize = 0;
-    while i < n {
-        at = put_classed(buf, at, sizes, k, cells, row_at(table, start, k));
-        start += k;
-        i += 1;
-    }
-    at
-}
 
 // The last two fields of a line, and the byte that ends it; the place behind them.
 pub fn put_two_fields(buf: &mut [u8], at: usize, first: usize, second: u32) -> usize
@@ -101,10 +50,8 @@ fn put_counts(buf: &mut [u8], from: usize, counts: &[u32]) -> usize
     ensures { Put buf.old from (class_lines 0 counts.now) buf.new result }
 {
     let mut at = from;
-    let mut i: usize = 0;
-    while i < counts.len() {
-        at = put_count(buf, at, i, counts[i]);
-        i += 1;
+    for (i, count) in counts.iter().enumerate() {
+        at = put_count(buf, at, i, *count);
     }
     at
 }

@@ -14,10 +14,10 @@ ghost use Rattle.listing.specs.Lines.{row_line_with};
 ghost use Rattle.listing.specs.Hours.{minutes_in, hour_lines};
 
 use crate::class_lines::put_two_fields;
+use listing_code::{RowPart, put_rows};
 use plan::{MOST_CELLS, Shape};
 use plan_code::grow_plan;
 use printing_code::{put_joined, put_total};
-use rows_code::row_at;
 use totals::Total;
 use windows_code::row_minutes;
 
@@ -43,6 +43,26 @@ fn put_houred(
     put_two_fields(buf, end - 1, w.from as usize, w.to)
 }
 
+// The first k layers' join, each row of which is put with the minutes that its windows share.
+#[derive(Clone, Copy)]
+struct Houred<'a> {
+    sizes: &'a [u32],
+    k: usize,
+    cells: &'a [i32],
+    hours: &'a [u32],
+}
+
+impl<'a> RowPart for Houred<'a> {
+    ghost bytes = { λ h row. row_line_with (minutes_in (take h.k h.sizes.now) h.hours.now) (layers_of (take h.k h.sizes.now) h.cells.now) row };
+
+    ghost takes = { λ h row. (h.k ≤ length h.sizes.now) × Framed (take h.k h.sizes.now) h.cells.now
+        × (2 * sum (take h.k h.sizes.now) ≤ length h.hours.now) × (is_row (layers_of (take h.k h.sizes.now) h.cells.now) row ≡ true) };
+
+    fn put(&self, buf: &mut [u8], at: usize, row: &[u32]) -> usize {
+        put_houred(buf, at, self.sizes, self.k, self.cells, self.hours, row)
+    }
+}
+
 // The ROW lines of the first n rows of a table, each with its shared minutes; the place behind them.
 fn put_hour_rows(
     buf: &mut [u8],
@@ -61,15 +81,13 @@ fn put_hour_rows(
         (hour_lines (take k sizes.now) hours.now (layers_of (take k sizes.now) cells.now)
         (rows_in k n table.now)) buf.new result }
 {
-    let mut at = from;
-    let mut start: usize = 0;
-    let mut i: usize = 0;
-    while i < n {
-        at = put_houred(buf, at, sizes, k, cells, hours, row_at(table, start, k));
-        start += k;
-        i += 1;
-    }
-    at
+    let part = Houred {
+        sizes,
+        k,
+        cells,
+        hours,
+    };
+    put_rows(&part, buf, from, table, k, n)
 }
 
 // The lines of the first n rows of a table, each with its shared minutes, and the total, at the start of the buffer; the place behind them.

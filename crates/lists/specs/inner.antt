@@ -1,2 +1,3 @@
 -- What proofs and code use; no public call's contract or theorem cites it.
 pub mod Stores
+pub mod Props

@@ -11,10 +11,9 @@ use lib.Dec.{leb}
 use lib.ListN.{length, get_or, take, drop, length-drop, get_or-eq_default}
 use lib.Seq.{length-take-le}
 use borrow.Author.Tests.{leb-true, leb-false, le-leb, lt-leb}
-use mir.Val.{bool_byte}
 use Rattle.lists.specs.Lists.{sum, each}
 use Rattle.lists.proofs.Lists.{all_get_d}
-use Rattle.lists.proofs.Tests.{as_number, total}
+use Rattle.lists.proofs.Tests.{total}
 use Rattle.geometry.specs.declared.Rect.{Rect}
 use Rattle.geometry.specs.Rectangles.{in_range, in_extent}
 use Rattle.plan.specs.declared.Shape.{Shape}
@@ -25,8 +24,8 @@ use Rattle.plan.specs.Frames.{Framed}
 use Rattle.plan.proofs.Plan.{or-else-zero, or-else-first, or-else-second, unless-zero}
 use Rattle.plan.proofs.Spots.{rect-drop, rect-take, size_of, layer-at, layer-within}
 use Rattle.nearest.specs.declared.Near.{Near}
-use Rattle.nearest.specs.declared.NearestAnswer.{NearestAnswer}
-use Rattle.nearest.specs.Nearest.{squared_gap, nothing, nearer, nearest_to, nearest_in, nearest_of, nearest_cause, nearest_call, near_cells}
+use Rattle.std.specs.Prelude.{Option, Some, None, Ok, Err}
+use Rattle.nearest.specs.Nearest.{squared_gap, nothing, nearer, nearest_to, nearest_in, nearest_of, nearest_cause, nearest_call, NearestValues, entry_cells, near_cells}
 use Rattle.nearest.specs.inner.Parts.{Part, Within}
 use Rattle.nearest.specs.Theorems.{IsNearest, empty, nearest}
 
@@ -49,14 +48,14 @@ module _ (s : Shape) (cells : List ℤ) (a : Rect) where
   box-passed e = unless-zero (in_range a) 13 (or-else-zero (plan_cause s cells) (unless (in_range a) 14) e).1
 
   -- a refusal, and an answer
-  pub call-refused : (n : ℕ) (e : Near) → n ≡ nearest_cause s cells a → (n ≡ 0 → ⊥) → e ≡ nothing → record { number = n; layers = e ∷ e ∷ e ∷ e ∷ e ∷ e ∷ [] } ≡ nearest_call s cells a
+  pub call-refused : (n : ℕ) → n ≡ nearest_cause s cells a → (n ≡ 0 → ⊥) → Err n ≡ nearest_call s cells a
   unfolding nearest_call
-  call-refused zero e q h k = absurd (h refl)
-  call-refused (suc n) e q h k = rw (← q, k)
+  call-refused zero q h = absurd (h refl)
+  call-refused (suc n) q h = rw (← q)
 
-  pub call-accepted : (r : NearestAnswer) → nearest_cause s cells a ≡ 0 → r ≡ nearest_of (layers s cells) a → r ≡ nearest_call s cells a
+  pub call-accepted : (r : List (Option Near)) → nearest_cause s cells a ≡ 0 → r ≡ nearest_of (layers s cells) a → Ok r ≡ nearest_call s cells a
   unfolding nearest_call
-  call-accepted r e h = rw e h
+  call-accepted r e h = rw e (ap Ok h)
 
 -- ---- the search of a layer
 pub near_none : (a : Rect) (rect : ℕ → Rect) → nothing ≡ nearest_to a rect 0
@@ -68,7 +67,7 @@ pub record Found (a : Rect) (rect : ℕ → Rect) (size : ℕ) (least place p : 
   pub some : 1 ≤ p
   pub within : p ≤ size
   pub before : place < p
-  pub is : record { found = true; place = place; gap = least } ≡ nearest_to a rect p
+  pub is : Some (record { place = place; gap = least }) ≡ nearest_to a rect p
 
 module _ (a : Rect) (rect : ℕ → Rect) (size : ℕ) where
   pub found_first : (least : ℕ) → 0 < size → least ≡ squared_gap a (rect 0) → Found a rect size least 0 1
@@ -76,15 +75,15 @@ module _ (a : Rect) (rect : ℕ → Rect) (size : ℕ) where
   found_first least h e = record { some = omega arith; within = h; before = omega arith; is = rw e }
 
   module _ (least place p : ℕ) (f : Found a rect size least place p) (h : p < size) (v : ℕ) (w : Within least (squared_gap a (rect p)) v) where
-    more : nearer (record { found = true; place = place; gap = least }) p (squared_gap a (rect p)) ≡ nearest_to a rect (p + 1)
+    more : nearer (Some (record { place = place; gap = least })) p (squared_gap a (rect p)) ≡ nearest_to a rect (p + 1)
     unfolding nearest_to
-    more = ap (λ (b : Near). nearer b p (squared_gap a (rect p))) f.is ∙ ap (nearest_to a rect) (sym (add-one p))
+    more = ap (λ (b : Option Near). nearer b p (squared_gap a (rect p))) f.is ∙ ap (nearest_to a rect) (sym (add-one p))
 
-    kept : (g : ℕ) → least ≤ g → record { found = true; place = place; gap = least } ≡ nearer (record { found = true; place = place; gap = least }) p g
+    kept : (g : ℕ) → least ≤ g → Some (record { place = place; gap = least }) ≡ nearer (Some (record { place = place; gap = least })) p g
     unfolding nearer
     kept g k = rw (le-leb least g k)
 
-    taken : (g : ℕ) → g < least → record { found = true; place = p; gap = g } ≡ nearer (record { found = true; place = place; gap = least }) p g
+    taken : (g : ℕ) → g < least → Some (record { place = p; gap = g }) ≡ nearer (Some (record { place = place; gap = least })) p g
     unfolding nearer
     taken g k = rw (lt-leb least g k)
 
@@ -94,7 +93,7 @@ module _ (a : Rect) (rect : ℕ → Rect) (size : ℕ) where
       some = omega arith;
       within = omega arith;
       before = omega arith;
-      is = ap (λ (g : ℕ). record { found = true; place = p; gap = g }) (w.less k) ∙ (taken _ (omega (arith, w.less k)) ∙ more);
+      is = ap (λ (g : ℕ). Some (record { place = p; gap = g })) (w.less k) ∙ (taken _ (omega (arith, w.less k)) ∙ more);
     }
 
     found-same : least ≤ v → Found a rect size least place (p + 1)
@@ -114,7 +113,7 @@ module _ (a : Rect) (rect : ℕ → Rect) where
       go (inl k) = let e : n ≡ p = omega arith in subst P e x
       go (inr k) = f p k
 
-  is-more : (n : ℕ) {e : Near} → IsNearest a (record { size = n; rect = rect }) e → IsNearest a (record { size = suc n; rect = rect }) (nearer e n (squared_gap a (rect n)))
+  is-more : (n : ℕ) {e : Option Near} → IsNearest a (record { size = n; rect = rect }) e → IsNearest a (record { size = suc n; rect = rect }) (nearer e n (squared_gap a (rect n)))
   unfolding nearer
   is-more n (empty z) = nearest n _ (omega arith) refl (below_more n (λ q h. absurd (omega arith)) (omega arith)) (λ q h. absurd (omega arith))
   is-more n (nearest p gap h is smallest lowest) = go (leb gap g) refl
@@ -123,7 +122,7 @@ module _ (a : Rect) (rect : ℕ → Rect) where
       g = squared_gap a (rect n)
 
       -- no farther than the one at n, or farther
-      go : (t : Bool) → leb gap g ≡ t → IsNearest a (record { size = suc n; rect = rect }) (cond t (record { found = true; place = p; gap = gap }) (record { found = true; place = n; gap = g }))
+      go : (t : Bool) → leb gap g ≡ t → IsNearest a (record { size = suc n; rect = rect }) (Some (cond t (record { place = p; gap = gap }) (record { place = n; gap = g })))
       go true e = nearest p gap (omega arith) is (below_more n smallest (leb-true gap g e)) lowest
       go false e =
           nearest n g (omega arith) refl (below_more n (λ q k. omega (arith, smallest q k, leb-false gap g e)) (omega arith)) (λ q k. omega (arith, smallest q k, leb-false gap g e))
@@ -161,15 +160,33 @@ module _ (ns : List ℕ) (cells : List ℤ) (j : ℕ) (fr : Framed ns cells) (h 
       ranged = λ p k. ap in_extent (at p k) ∙ fr.ranged (start + p) (omega (arith, layer-within ns j));
     }
 
-    pub near-layer : (a : Rect) (r : Near) → r ≡ nearest_in a (record { size = get_or ns j 0; rect = rect_at part }) → r ≡ nearest_in a (layer_at (layers_of ns cells) j)
+    pub near-layer : (a : Rect) (r : Option Near) → r ≡ nearest_in a (record { size = get_or ns j 0; rect = rect_at part }) → r ≡ nearest_in a (layer_at (layers_of ns cells) j)
     near-layer a r e = e ∙ ap (λ (l : List ℤ). nearest_in a (record { size = get_or ns j 0; rect = rect_at l })) same ∙ ap (nearest_in a) (sym (layer-at ns cells j h))
 
 -- ---- six entries
-pub nearest-eq : (ls : List Layer) (a : Rect) (r s t u v w : Near) → r ≡ nearest_in a (layer_at ls 0) → s ≡ nearest_in a (layer_at ls 1) → t ≡ nearest_in a (layer_at ls 2) → u ≡ nearest_in a (layer_at ls 3)
-    → v ≡ nearest_in a (layer_at ls 4) → w ≡ nearest_in a (layer_at ls 5) → record { number = 0; layers = r ∷ s ∷ t ∷ u ∷ v ∷ w ∷ [] } ≡ nearest_of ls a
-nearest-eq ls a r s t u v w e f g h i j = λ n. record { number = 0; layers = e n ∷ f n ∷ g n ∷ h n ∷ i n ∷ j n ∷ [] }
+pub nearest-eq : (ls : List Layer) (a : Rect) (r s t u v w : Option Near) → r ≡ nearest_in a (layer_at ls 0) → s ≡ nearest_in a (layer_at ls 1) → t ≡ nearest_in a (layer_at ls 2) → u ≡ nearest_in a (layer_at ls 3)
+    → v ≡ nearest_in a (layer_at ls 4) → w ≡ nearest_in a (layer_at ls 5) → r ∷ s ∷ t ∷ u ∷ v ∷ w ∷ [] ≡ nearest_of ls a
+nearest-eq ls a r s t u v w e f g h i j = λ n. e n ∷ f n ∷ g n ∷ h n ∷ i n ∷ j n ∷ []
 
 -- ---- cells
--- as they are made: only the flag is not the field itself
-pub cells-made : (r : NearestAnswer) → each (λ j. let e = get_or r.layers j nothing in bool_byte e.found ∷ e.place ∷ e.gap ∷ []) 0 6 ≡ near_cells r
-cells-made r = ap (λ (f : ℕ → List ℕ). each f 0 6) (fun_ext (λ j. let e = get_or r.layers j nothing in ap (λ (n : ℕ). n ∷ e.place ∷ e.gap ∷ []) (as_number e.found)))
+-- the three of an entry, one by one
+abbrev pub parts : List ℕ → List ℕ → List ℕ
+parts cells rest = get_or cells 0 0 ∷ get_or cells 1 0 ∷ get_or cells 2 0 ∷ rest
+
+abbrev pub entry_parts : Option Near → List ℕ
+entry_parts e = parts (entry_cells e) []
+
+pub parts-same : (e : Option Near) → entry_parts e ≡ entry_cells e
+parts-same None = refl
+parts-same (Some e) = refl
+
+-- ... of each layer
+pub cells-made : (r : NearestValues) → each (λ j. entry_parts (get_or r.layers j nothing)) 0 6 ≡ near_cells r
+cells-made r = ap (λ (f : ℕ → List ℕ). each f 0 6) (fun_ext (λ j. parts-same (get_or r.layers j nothing)))
+
+-- the six of an answer, each made before
+module _ (r : NearestValues) (a b c d e f : List ℕ) where
+  pub six-made : a ≡ entry_cells (get_or r.layers 0 nothing) → b ≡ entry_cells (get_or r.layers 1 nothing) → c ≡ entry_cells (get_or r.layers 2 nothing) → d ≡ entry_cells (get_or r.layers 3 nothing)
+      → e ≡ entry_cells (get_or r.layers 4 nothing) → f ≡ entry_cells (get_or r.layers 5 nothing)
+      → parts a (parts b (parts c (parts d (parts e (parts f []))))) ≡ near_cells r
+  six-made p q s t u v = (λ n. parts (p n) (parts (q n) (parts (s n) (parts (t n) (parts (u n) (parts (v n) [])))))) ∙ cells-made r

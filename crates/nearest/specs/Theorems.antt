@@ -1,5 +1,5 @@
 -- Theorem: what is promised of the nearest rectangles, for every plan and box. Proved in proofs/Theorems.antt.
-use Rattle.std.specs.Prelude.{◌≡◌, List, [], ◌∷◌, true, false, cond, ◌↔◌, ℕ, ◌+◌, ◌*◌, ◌≤◌, ◌<◌, ℤ, pos, nat_abs, ◌-ℤ◌, length, get_or, take, drop}
+use Rattle.std.specs.Prelude.{◌≡◌, List, [], ◌∷◌, true, ◌↔◌, ℕ, ◌+◌, ◌*◌, ◌≤◌, ◌<◌, ℤ, pos, nat_abs, ◌-ℤ◌, length, get_or, take, drop, Option, Some, None}
 use Rattle.geometry.specs.declared.Rect.{Rect}
 use Rattle.geometry.specs.Rectangles.{In, nonempty, meets, held}
 use Rattle.geometry.specs.Theorems.{Ranged}
@@ -9,8 +9,7 @@ use Rattle.plan.specs.Plan.{Layer, layers}
 use Rattle.plan.specs.Spots.{layer_at}
 use Rattle.plan.specs.Theorems.{PlanChecks}
 use Rattle.nearest.specs.declared.Near.{Near}
-use Rattle.nearest.specs.declared.NearestAnswer.{NearestAnswer}
-use Rattle.nearest.specs.Nearest.{squared_gap, nearest_cause, nearest_call, near_cells}
+use Rattle.nearest.specs.Nearest.{squared_gap, nearest_cause, nearest_call, NearestValues, nearest_values, near_cells}
 
 -- the squared distance of the points x, y and u, v
 abbrev pub squared_distance : (x y u v : ℤ) → ℕ
@@ -24,29 +23,29 @@ pub record GapHolds (a r : Rect) : Type 0 where
   -- 0 exactly where they have a common point
   pub touching : (squared_gap a r ≡ 0) ↔ (meets a r ≡ true)
 
--- that nothing is found, "with place and gap 0"
-abbrev pub none_found : Near
-none_found = record { found = false; place = 0; gap = 0 }
+-- that nothing is found
+abbrev pub none_found : Option Near
+none_found = None
 
 -- an entry of a layer: nothing, of an empty one; else the lowest place among those with the smallest gap, and that gap
-pub data IsNearest (a : Rect) (l : Layer) : Near → Type 0 where
+pub data IsNearest (a : Rect) (l : Layer) : Option Near → Type 0 where
   empty : l.size ≡ 0 → IsNearest a l none_found
   nearest : (p gap : ℕ) → p < l.size → gap ≡ squared_gap a (l.rect p) → ((q : ℕ) → q < l.size → gap ≤ squared_gap a (l.rect q))
-      → ((q : ℕ) → q < p → gap < squared_gap a (l.rect q)) → IsNearest a l (record { found = true; place = p; gap = gap })
+      → ((q : ℕ) → q < p → gap < squared_gap a (l.rect q)) → IsNearest a l (Some (record { place = p; gap = gap }))
 
 -- the entry of layer j, counted from 0
-abbrev pub entry : NearestAnswer → ℕ → Near
+abbrev pub entry : NearestValues → ℕ → Option Near
 entry r j = get_or r.layers j none_found
 
 -- of one call
 pub record NearestTold (s : Shape) (cells : List ℤ) (a : Rect) : Type 0 where
   -- the causes: a plan's, then 14, "the box has left > right, bottom > top or a coordinate out of range"; the answer tells the number
   pub causes : PlanChecks s cells (Check 14 (Ranged a) Passed) (nearest_cause s cells a)
-  pub number : (nearest_call s cells a).number ≡ nearest_cause s cells a
+  pub number : (nearest_values (nearest_call s cells a)).number ≡ nearest_cause s cells a
   -- an accepted call answers for layers 1 to 6, in this order
-  pub accepted : nearest_cause s cells a ≡ 0 → (j : ℕ) → j < 6 → IsNearest a (layer_at (layers s cells) j) (entry (nearest_call s cells a) j)
+  pub accepted : nearest_cause s cells a ≡ 0 → (j : ℕ) → j < 6 → IsNearest a (layer_at (layers s cells) j) (entry (nearest_values (nearest_call s cells a)) j)
   -- nothing is found in a layer past k, and in any where the call is refused
-  pub past : (j : ℕ) → (nearest_cause s cells a ≡ 0 → s.k ≤ j) → entry (nearest_call s cells a) j ≡ none_found
+  pub past : (j : ℕ) → (nearest_cause s cells a ≡ 0 → s.k ≤ j) → entry (nearest_values (nearest_call s cells a)) j ≡ none_found
 
 pub record NearestHolds : Type 0 where
   pub gaps : (a r : Rect) → nonempty a ≡ true → nonempty r ≡ true → GapHolds a r
@@ -54,7 +53,7 @@ pub record NearestHolds : Type 0 where
   -- 10,050,000, as in every plan, which fits 64 bits
   pub bound : (m n : ℕ) (a r : Rect) → held (pos m) a ≡ true → held (pos n) r ≡ true → squared_gap a r ≤ 2 * ((m + n) * (m + n))
   pub told : (s : Shape) (cells : List ℤ) (a : Rect) → NearestTold s cells a
-  -- as cells, three for each layer: found (0 or 1), place, gap
-  pub long : (r : NearestAnswer) → length (near_cells r) ≡ 18
-  pub cells : (r : NearestAnswer) (j : ℕ) → j < 6 → let e = entry r j in
-      take 3 (drop (3 * j) (near_cells r)) ≡ cond e.found 1 0 ∷ e.place ∷ e.gap ∷ []
+  -- as cells, three for each layer: found (0 or 1), place, gap; where nothing is found, "with place and gap 0"
+  pub long : (r : NearestValues) → length (near_cells r) ≡ 18
+  pub cells : (r : NearestValues) (j : ℕ) → j < 6 → (e : Near) → entry r j ≡ Some e → take 3 (drop (3 * j) (near_cells r)) ≡ 1 ∷ e.place ∷ e.gap ∷ []
+  pub no_cells : (r : NearestValues) (j : ℕ) → j < 6 → entry r j ≡ none_found → take 3 (drop (3 * j) (near_cells r)) ≡ 0 ∷ 0 ∷ 0 ∷ []

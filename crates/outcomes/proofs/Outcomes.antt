@@ -7,6 +7,11 @@ use lib.ListN.{length, take, drop, length-append}
 use borrow.Author.Tests.{le-leb, lt-leb}
 use Rattle.lists.specs.inner.Stores.{Put}
 use Rattle.lists.proofs.Stores.{put-start, put-length}
+use Rattle.plan.specs.declared.cause.Cause.{Cause}
+use Rattle.plan.specs.declared.cause.Cause.TheVariants as cause
+use Rattle.plan.specs.Causes.{number_of}
+use Rattle.outcomes.specs.declared.Status.{Status}
+use Rattle.outcomes.specs.declared.Status.TheVariants as status
 use Rattle.outcomes.specs.declared.Reply.{Reply}
 use Rattle.printing.specs.inner.Parts.{FitsAt}
 use Rattle.printing.specs.Lines.{refused_line}
@@ -15,7 +20,7 @@ use Rattle.printing.proofs.Puts.{put_same}
 use Rattle.outcomes.specs.Texts.{ascii, text_part}
 use Rattle.outcomes.specs.inner.Places.{EndsAt, StartsAt}
 use Rattle.outcomes.specs.inner.Rooms.{Room, room_for_words}
-use Rattle.outcomes.specs.Outcomes.{Outcome, Told, error_line, cause_lines, cause_line, cause_text, refused_with, refused, misused, done}
+use Rattle.outcomes.specs.Outcomes.{Outcome, exit_status, done_reply, refused_reply, misused_reply, Told, error_line, cause_lines, cause_line, cause_text, refused_with, refused, misused, done}
 use Rattle.outcomes.proofs.Texts.{part-few, part_bytes}
 
 -- nothing is put
@@ -24,7 +29,7 @@ put-none buf = record { place = refl; stored = refl }
 
 module _ (o : Outcome) (out err out_after errAfter : List ℕ) where
   -- both are put
-  pub told-both : (status m n : ℕ) → status ≡ o.status → length o.out ≤ length out → Put out 0 o.out out_after m → length o.err ≤ length err
+  pub told-both : (status : Status) (m n : ℕ) → exit_status status ≡ o.status → length o.out ≤ length out → Put out 0 o.out out_after m → length o.err ≤ length err
       → Put err 0 o.err errAfter n → Told o out err out_after errAfter (record { status = status; out = m; err = n })
   told-both status m n s h p k q =
       record {
@@ -42,9 +47,9 @@ module _ (o : Outcome) (out err out_after errAfter : List ℕ) where
 module _ (out err : List ℕ) where
   -- an answer stands in the first n bytes
   pub told-done : (bytes out_after : List ℕ) (n : ℕ) → length bytes ≤ length out → Put out 0 bytes out_after n
-      → Told (done bytes) out err out_after err (record { status = 0; out = n; err = 0 })
+      → Told (done bytes) out err out_after err (done_reply n)
   unfolding done
-  told-done bytes out_after n h p = told-both (done bytes) out err out_after err 0 n 0 refl h p (omega arith) (put-none err)
+  told-done bytes out_after n h p = told-both (done bytes) out err out_after err status.Done n 0 refl h p (omega arith) (put-none err)
 
 -- ---- lengths
 pub error-length : (words : List ℕ) → length (error_line words) ≡ length words + 10
@@ -52,10 +57,10 @@ error-length words = omega (arith, length-append (ascii "overlay: ") (words ++ 1
 
 -- words stand on standard error alone
 pub told-misused : (out err words errAfter : List ℕ) (n : ℕ) → length words + 10 ≤ length err → Put err 0 (error_line words) errAfter n
-    → Told (misused words) out err out errAfter (record { status = 2; out = 0; err = n })
+    → Told (misused words) out err out errAfter (misused_reply n)
 unfolding misused
 told-misused out err words errAfter n h p =
-    told-both (misused words) out err out errAfter 2 0 n refl (omega arith) (put-none out) (omega (arith, error-length words)) p
+    told-both (misused words) out err out errAfter status.Misused 0 n refl (omega arith) (put-none out) (omega (arith, error-length words)) p
 
 cause-lines-few : length cause_lines + 10 ≤ room_for_words
 unfolding cause_lines
@@ -71,14 +76,14 @@ refused-room out err cause r = record { fits = omega (arith, r.answer, refused-f
 -- a refusal's line and the lines that say why are put
 pub told-refused-with : (out err out_after errAfter lines : List ℕ) (cause m n : ℕ) → Room out err → length lines ≤ length err
     → Put out 0 (refused_line cause) out_after m → Put err 0 lines errAfter n
-    → Told (refused_with cause lines) out err out_after errAfter (record { status = 1; out = m; err = n })
+    → Told (refused_with cause lines) out err out_after errAfter (refused_reply m n)
 unfolding refused_with
 told-refused-with out err out_after errAfter lines cause m n r h p q =
-    told-both (refused_with cause lines) out err out_after errAfter 1 m n refl (omega (arith, r.answer, refused-few cause)) p h q
+    told-both (refused_with cause lines) out err out_after errAfter status.Refused m n refl (omega (arith, r.answer, refused-few cause)) p h q
 
 -- a refusal's line and its meaning are put
 pub told-refused : (out err out_after errAfter : List ℕ) (cause m n : ℕ) → Room out err → Put out 0 (refused_line cause) out_after m
-    → Put err 0 (error_line (cause_text cause)) errAfter n → Told (refused cause) out err out_after errAfter (record { status = 1; out = m; err = n })
+    → Put err 0 (error_line (cause_text cause)) errAfter n → Told (refused cause) out err out_after errAfter (refused_reply m n)
 unfolding refused
 told-refused out err out_after errAfter cause m n r p q =
     let h : length (error_line (cause_text cause)) ≤ length err
@@ -119,6 +124,33 @@ pub cause-put : (err errAfter lines : List ℕ) (cause n r : ℕ) → lines ≡ 
     → Put err 0 (error_line (text_part 10 n lines)) errAfter r → Put err 0 (error_line (cause_text cause)) errAfter r
 unfolding cause_text
 cause-put err errAfter lines cause n r e f p = rw (e, f) at p
+
+-- the number of a cause is at most 24
+pub number-most : (c : Cause) → number_of c ≤ 24
+number-most cause.WrongLayerCount = omega arith
+number-most cause.WrongSize = omega arith
+number-most cause.WrongCellCount = omega arith
+number-most cause.WrongRectangle = omega arith
+number-most cause.WrongOrder = omega arith
+number-most cause.WrongTicket = omega arith
+number-most cause.SmallTable = omega arith
+number-most cause.WrongOrderLength = omega arith
+number-most cause.MalformedText = omega arith
+number-most cause.WrongPlanText = omega arith
+number-most cause.FewCells = omega arith
+number-most cause.SmallTextBuffer = omega arith
+number-most cause.LongInput = omega arith
+number-most cause.WrongBox = omega arith
+number-most cause.FewLayers = omega arith
+number-most cause.WrongSegment = omega arith
+number-most cause.WrongMargin = omega arith
+number-most cause.WrongCounter = omega arith
+number-most cause.SmallWork = omega arith
+number-most cause.WrongRecord = omega arith
+number-most cause.WrongStops = omega arith
+number-most cause.WrongRound = omega arith
+number-most cause.WrongPlaces = omega arith
+number-most cause.WrongWindow = omega arith
 
 pub line_known : (cause : ℕ) → cause ≤ 24 → cause ≡ cause_line cause
 line_known cause h = rw (le-leb cause 24 h) refl

@@ -4,11 +4,14 @@ use mathlib.Core.List.{List, [], ◌∷◌}
 use mathlib.Core.Bool.{Bool, true, false, cond}
 use Prim.Native.Nat.{ℕ, zero, suc, ◌+◌, ◌-◌, ◌≤◌, ◌<◌}
 use native.Mathlib.Omega.{arith}
-use lib.Dec.{eqb}
-use lib.ListN.{length, get_or, take, drop, drop_of_length-le, length-drop}
+use lib.Dec.{eqb, ltb}
+use lib.ListN.{length, take, drop, drop_of_length-le, length-drop}
 use lib.Seq.{drop-drop}
-use borrow.Author.Tests.{eq-eqb, ne_eqb}
-use Rattle.decimal.proofs.Places.{at_byte}
+use borrow.Author.Tests.{ltb-false}
+use Rattle.std.specs.Prelude.{None, Some}
+use Rattle.std.specs.List.{position, position_or_len}
+use Rattle.std.proofs.lemmas.Option.{none-some, cond_some}
+use Rattle.std.proofs.lemmas.List.Recursion.{is_position_or_len}
 use Rattle.outcomes.specs.Texts.{up_to, behind_first, text_part}
 use Rattle.outcomes.specs.inner.Places.{EndsAt, GoesOnAt, StartsAt}
 
@@ -50,44 +53,37 @@ unfolding text_part
 part-few e zero t = up-to-few e t
 part-few e (suc n) t = omega (arith, part-few e n (behind_first e t), behind-few e t)
 
-first-is : (e b : ℕ) (t : List ℕ) → b ≡ e → up_to e (b ∷ t) ≡ []
-unfolding up_to
-first-is e b t h = rw (eq-eqb b e h) refl
-
-first-other : (e b : ℕ) (t : List ℕ) → (b ≡ e → ⊥) → up_to e (b ∷ t) ≡ b ∷ up_to e t
-unfolding up_to
-first-other e b t h = rw (ne_eqb b e h) refl
-
 pub up-to-none : (e : ℕ) → up_to e [] ≡ []
 unfolding up_to
 up-to-none e = refl
 
+-- it is as long as the library counts, from 0, to the first e
+up-to-position : (e : ℕ) (t : List ℕ) → length (up_to e t) ≡ position_or_len (λ b. eqb b e) t
+unfolding up_to
+up-to-position e = is_position_or_len (λ t. length (up_to e t)) (λ b. eqb b e) (ap length (up-to-none e)) (λ b t. go (eqb b e) b t)
+  where
+    go : (v : Bool) (b : ℕ) (t : List ℕ) → length (cond v [] (b ∷ up_to e t)) ≡ cond v 0 (1 + length (up_to e t))
+    go true b t = refl
+    go false b t = omega arith
+
+no_some : (b : Bool) (n : ℕ) → cond b (Some n) None ≡ None → b ≡ false
+no_some true n e = absurd (none-some n (sym e))
+no_some false n e = refl
+
 module _ (e : ℕ) (text : List ℕ) where
-  -- no byte e stands from `from` to i
-  pub record Passed (from i : ℕ) : Type 0 where
-    pub inside : i ≤ length text
-    pub same : i + length (up_to e (drop i text)) ≡ from + length (up_to e (drop from text))
+  -- by what `position` answers of the bytes from a place on
+  pub found_at : (from n : ℕ) → from ≤ length text → Some n ≡ position (λ b. eqb b e) (drop from text) → EndsAt e text from (from + n)
+  found_at from n h p =
+      let t = drop from text in
+      let f = cond_some (ltb (position_or_len (λ b. eqb b e) t) (length t)) _ n (sym p) in
+      let l : length (up_to e t) ≡ n = up-to-position e t ∙ f.1 in
+      record { place = omega (arith, l); inside = omega (arith, l, up-to-few e t, length-drop from text) }
 
-  pub passed_none : (from : ℕ) → from ≤ length text → Passed from from
-  passed_none from h = record { inside = h; same = refl }
-
-  module _ (from i : ℕ) (p : Passed from i) where
-    pub passed-more : i < length text → (get_or text i 0 ≡ e → ⊥) → Passed from (i + 1)
-    passed-more h n =
-        let g : length (up_to e (drop i text)) ≡ suc (length (up_to e (drop (i + 1) text)))
-        = ap (λ (l : List ℕ). length (up_to e l)) (at_byte text i h) ∙ ap length (first-other e (get_or text i 0) (drop (i + 1) text) n) in
-        record { inside = omega arith; same = omega (arith, p.same, g) }
-
-    pub passed-all : length text ≤ i → EndsAt e text from i
-    passed-all h =
-        let g : length (up_to e (drop i text)) ≡ 0 = ap (λ (l : List ℕ). length (up_to e l)) (drop_of_length-le text h) ∙ ap length (up-to-none e) in
-        record { place = omega (arith, p.same, g); inside = p.inside }
-
-    pub passed_here : i < length text → get_or text i 0 ≡ e → EndsAt e text from i
-    passed_here h n =
-        let g : length (up_to e (drop i text)) ≡ 0
-        = ap (λ (l : List ℕ). length (up_to e l)) (at_byte text i h) ∙ ap length (first-is e (get_or text i 0) (drop (i + 1) text) n) in
-        record { place = omega (arith, p.same, g); inside = p.inside }
+  pub found_none : (from : ℕ) → from ≤ length text → None ≡ position (λ b. eqb b e) (drop from text) → EndsAt e text from (length text)
+  found_none from h p =
+      let t = drop from text in
+      let l : length t ≤ position_or_len (λ b. eqb b e) t = ltb-false _ _ (no_some (ltb (position_or_len (λ b. eqb b e) t) (length t)) _ (sym p)) in
+      record { place = omega (arith, l, up-to-position e t, up-to-few e t, length-drop from text); inside = omega arith }
 
   -- the bytes between a place and where its part ends
   pub part_bytes : (from r : ℕ) → EndsAt e text from r → take (r - from) (drop from text) ≡ up_to e (drop from text)

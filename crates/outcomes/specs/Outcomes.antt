@@ -1,6 +1,8 @@
 -- What a command says, and the three kinds of it: done, refused, misused.
 use Rattle.std.specs.Prelude.{◌≡◌, List, [], ◌∷◌, ◌++◌, cond, ℕ, leb, length, drop}
 use Rattle.printing.specs.Lines.{refused_line}
+use Rattle.outcomes.specs.declared.Status.{Status}
+use Rattle.outcomes.specs.declared.Status.TheVariants as status
 use Rattle.outcomes.specs.declared.Reply.{Reply}
 use Rattle.outcomes.specs.Texts.{ascii, text_part}
 
@@ -10,9 +12,25 @@ pub record Outcome : Type 0 where
   pub out : List ℕ
   pub err : List ℕ
 
+-- the exit status of each way to end
+abbrev pub exit_status : Status → ℕ
+exit_status status.Done = 0
+exit_status status.Refused = 1
+exit_status status.Misused = 2
+
+-- what is handed back with an answer of so many bytes, with a refusal, and where arguments are wrong
+abbrev pub done_reply : (out : ℕ) → Reply
+done_reply out = record { status = status.Done; out = out; err = 0 }
+
+abbrev pub refused_reply : (out err : ℕ) → Reply
+refused_reply out err = record { status = status.Refused; out = out; err = err }
+
+abbrev pub misused_reply : (err : ℕ) → Reply
+misused_reply err = record { status = status.Misused; out = 0; err = err }
+
 -- an outcome is handed back: its bytes stand at the start of the two buffers, the rest of which is kept
 pub record Told (o : Outcome) (out err out_after errAfter : List ℕ) (r : Reply) : Type 0 where
-  pub status : r.status ≡ o.status
+  pub status : exit_status r.status ≡ o.status
   pub out_size : r.out ≡ length o.out
   pub err_size : r.err ≡ length o.err
   pub out_bytes : out_after ≡ o.out ++ drop (length o.out) out

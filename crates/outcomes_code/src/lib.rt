@@ -6,29 +6,27 @@ mod words;
 
 ghost use Rattle.std.specs.Prelude.{[], ◌∷◌, ◌++◌, ◌+◌, ◌≤◌, length};
 ghost use Rattle.lists.specs.inner.Stores.{Put};
+ghost use Rattle.plan.specs.Causes.{number_of};
 ghost use Rattle.printing.specs.inner.Parts.{FitsAt};
 ghost use Rattle.outcomes.specs.Texts.{text_part};
 ghost use Rattle.outcomes.specs.Outcomes.{Told, error_line, cause_text, refused, misused};
 ghost use Rattle.outcomes.specs.inner.Rooms.{Room, room_for_words};
 
 use outcomes::Reply;
-pub use parts::{end_of, part_from, part_of};
+pub use parts::{end_of, next_part, part_from, part_of};
+use plan::Cause;
 use printing_code::put_refused;
 use speller::put_word;
 use words::{cause_line, cause_lines};
 
 // A refusal: its line, and what its cause means.
-pub fn put_refusal(out: &mut [u8], err: &mut [u8], cause: u32) -> Reply
+pub fn put_refusal(out: &mut [u8], err: &mut [u8], cause: Cause) -> Reply
     requires { Room out.old err.old }
-    ensures { Told (refused cause) out.old err.old out.new err.new result }
+    ensures { Told (refused (number_of cause)) out.old err.old out.new err.new result }
 {
     let m = put_refused(out, 0, cause);
     let n = put_cause(err, cause);
-    Reply {
-        status: 1,
-        out: m,
-        err: n,
-    }
+    Reply::refused(m, n)
 }
 
 // Wrong arguments: what is wanted, in words.
@@ -37,17 +35,13 @@ pub fn put_misuse(out: &mut [u8], err: &mut [u8], words: &[u8]) -> Reply
     ensures { Told (misused words.now) out.old err.old out.new err.new result }
 {
     let n = put_error(err, words);
-    Reply {
-        status: 2,
-        out: 0,
-        err: n,
-    }
+    Reply::misused(n)
 }
 
 // The line of a cause on standard error; its length.
-pub fn put_cause(err: &mut [u8], cause: u32) -> usize
+pub fn put_cause(err: &mut [u8], cause: Cause) -> usize
     requires { room_for_words ≤ length err.old }
-    ensures { Put err.old 0 (error_line (cause_text cause)) err.new result }
+    ensures { Put err.old 0 (error_line (cause_text (number_of cause))) err.new result }
 {
     let lines = cause_lines();
     put_error_part(err, &lines, cause_line(cause), b'\n')

@@ -1,5 +1,5 @@
 // Parts of texts, each ended by one byte.
-ghost use Rattle.std.specs.Prelude.{◌≡◌, ◌≤◌, length};
+ghost use Rattle.std.specs.Prelude.{◌≡◌, ◌==◌, ◌≤◌, length, position};
 ghost use Rattle.outcomes.specs.Texts.{text_part};
 ghost use Rattle.outcomes.specs.inner.Places.{EndsAt, GoesOnAt, StartsAt};
 
@@ -12,23 +12,26 @@ pub fn part_of(text: &[u8], n: u32, e: u8) -> &[u8]
     &text[from..end]
 }
 
+// The place of the first byte e, if there is one.
+fn first_of(text: &[u8], e: u8) -> Option<usize>
+    ensures { result ≡ position (λ b. b == e) text.now }
+{
+    text.iter().position(|b| *b == e)
+}
+
 // The place of the first byte e from a place on, or the end of the text.
 pub fn end_of(text: &[u8], from: usize, e: u8) -> usize
     requires { from ≤ length text.now }
     ensures { EndsAt e text.now from result }
 {
-    let mut i = from;
-    while i < text.len() {
-        if text[i] == e {
-            return i;
-        }
-        i += 1;
+    match first_of(&text[from..], e) {
+        Some(n) => from + n,
+        None => text.len(),
     }
-    i
 }
 
 // The place behind the first byte e from a place on, or the end of the text.
-fn next_part(text: &[u8], from: usize, e: u8) -> usize
+pub fn next_part(text: &[u8], from: usize, e: u8) -> usize
     requires { from ≤ length text.now }
     ensures { GoesOnAt e text.now from result }
 {
@@ -44,10 +47,8 @@ pub fn part_from(text: &[u8], n: u32, e: u8) -> usize
     ensures { StartsAt e n text.now result }
 {
     let mut from: usize = 0;
-    let mut i: u32 = 0;
-    while i < n {
+    for _ in 0..n {
         from = next_part(text, from, e);
-        i += 1;
     }
     from
 }

@@ -1,15 +1,15 @@
 // The words that stand on standard error.
 ghost use Rattle.std.specs.Prelude.{◌≡◌};
+ghost use Rattle.plan.specs.Causes.{number_of};
 ghost use Rattle.outcomes.specs.Outcomes.{cause_lines, cause_line};
 
+use plan::Cause;
+
 // The number of a cause's line.
-pub fn cause_line(cause: u32) -> u32
-    ensures { result ≡ cause_line cause }
+pub fn cause_line(cause: Cause) -> u32
+    ensures { result ≡ cause_line (number_of cause) }
 {
-    if cause <= 24 {
-        return cause;
-    }
-    0
+    u32::from(cause)
 }
 
 // What each cause means: a line each, from 0.

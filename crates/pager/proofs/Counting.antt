@@ -7,7 +7,7 @@ use native.Mathlib.Omega.{arith}
 use lib.Dec.{eqb}
 use lib.ListN.{length, get_or, set}
 use borrow.Author.Tests.{lt-ltb, le-ltb, ne_eqb, eq-eqb}
-use Rattle.plan.specs.Causes.{unless, ◌or_else◌}
+use Rattle.plan.specs.Causes.{unless}
 use Rattle.paging.specs.Calls.{most_count, one_cell, current}
 use Rattle.paging.proofs.Counters.{current-is, current-below}
 
@@ -29,13 +29,13 @@ module _ (count : ℕ) (counter : List ℕ) where
   pub passing : (b : Bool) → b ≡ current count counter → b ≡ true → (length counter ≡ 1) × (count < most_count)
   passing b e y = let h = sym e ∙ y in (ap length (current-is count counter h), current-below count counter h)
 
--- ---- a fresh start, by the cause of its plan and order
-module _ (cause : ℕ) (counter : List ℕ) where
-  pub fresh-long : cause ≡ 0 → (length counter ≡ 1 → ⊥) → 18 ≡ (cause or_else unless (one_cell counter) 18)
-  fresh-long z h = rw (z, ne_eqb (length counter) 1 h)
+-- ---- a fresh start
+module _ (counter : List ℕ) where
+  pub fresh-long : (length counter ≡ 1 → ⊥) → 18 ≡ unless (one_cell counter) 18
+  fresh-long h = rw (ne_eqb (length counter) 1 h)
 
-  pub fresh-none : cause ≡ 0 → length counter ≡ 1 → 0 ≡ (cause or_else unless (one_cell counter) 18)
-  fresh-none z h = rw (z, eq-eqb (length counter) 1 h)
+  pub fresh-none : length counter ≡ 1 → 0 ≡ unless (one_cell counter) 18
+  fresh-none h = rw (eq-eqb (length counter) 1 h)
 
 -- ---- writing
 pub written : (l : List ℕ) (n : ℕ) → length l ≡ 1 → set l 0 n ≡ n ∷ []

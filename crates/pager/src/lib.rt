@@ -8,51 +8,41 @@ mod grown;
 
 ghost use Rattle.std.specs.Prelude.{◌≡◌};
 ghost use Rattle.std.proofs.Math.Option.{none, some};
+ghost use Rattle.plan.specs.Causes.{by_number};
+ghost use Rattle.paging.specs.Answers.{fresh_told, page_told};
 ghost use Rattle.pager.specs.Answers.{first_of};
 ghost use Rattle.paging.specs.Calls.{fresh_call, fresh_counter, page_cause, stop_number, page_call, page_table, page_counter};
 
-use answers::{First, refused_page};
-pub use answers::{capacity_of, plain_cause, plain_page};
-use counters::{fresh_cause, write_count};
-use cursors::ended_cursor;
-use grown::{first_over, page_on, refused_first};
-use paging::{Fresh, Page, Ticket};
-use plan::{MOST_CELLS, Shape};
-use plan_code::{grown_cells, is_drawn, plan_cause};
-use windows_code::hours_cause;
+use answers::refused_page;
+pub use answers::{capacity_of, check_plain, plain_page};
+use counters::{check_counter, write_count};
+use grown::{first_over, page_on};
+use paging::{Cursor, Page, Ticket};
+use plan::{Cause, MOST_CELLS, Shape};
+use plan_code::{check_plan, grown_cells, is_drawn};
+use windows_code::check_hours;
 
 // The ticket of the first probe of a plan's walk; a run begins, and its counter is 0 (01: the fresh-ticket call; 02: the run record).
-pub fn fresh_ticket(shape: Shape, cells: &[i32], order: &[u32], counter: &mut [u64]) -> Fresh
-    ensures answer { result ≡ fresh_call shape cells.now order.now counter.old }
+pub fn fresh_ticket(
+    shape: Shape,
+    cells: &[i32],
+    order: &[u32],
+    counter: &mut [u64],
+) -> Result<Ticket, Cause>
+    ensures answer { fresh_told result ≡ fresh_call shape cells.now order.now counter.old }
     ensures counter { counter.new ≡ fresh_counter shape cells.now order.now counter.old }
 {
-    let first = first_of(shape, cells, order);
-    let cause = fresh_cause(first.number, counter);
-    if cause != 0 {
-        return Fresh {
-            number: cause,
-            ticket: Ticket {
-                cursor: ended_cursor(),
-                count: 0,
-            },
-        };
-    }
+    let cursor = first_of(shape, cells, order)?;
+    check_counter(counter)?;
     write_count(counter, 0);
-    let cursor = first.cursor;
-    Fresh {
-        number: 0,
-        ticket: Ticket { cursor, count: 0 },
-    }
+    Ok(Ticket { cursor, count: 0 })
 }
 
 // The cursor of the first probe, or the cause that refuses plan or order.
-fn first_of(shape: Shape, cells: &[i32], order: &[u32]) -> First
-    ensures { result ≡ first_of shape cells.now order.now }
+fn first_of(shape: Shape, cells: &[i32], order: &[u32]) -> Result<Cursor, Cause>
+    ensures { by_number result ≡ first_of shape cells.now order.now }
 {
-    let cause = plan_cause(shape, cells);
-    if cause != 0 {
-        return refused_first(cause);
-    }
+    check_plan(shape, cells)?;
     if is_drawn(shape) {
         return first_over(shape, cells, order);
     }
@@ -71,22 +61,21 @@ pub fn fetch_page(
     budget: u32,
     table: &mut [u32],
 ) -> Page
-    ensures answer { result
+    ensures answer { page_told result
         ≡ page_call none shape cells.now order.now ticket counter.old budget table.old }
-    ensures number { stop_number result.stop ≡ page_cause none shape cells.now order.now ticket counter.old }
+    ensures number { stop_number (page_told result).stop ≡ page_cause none shape cells.now order.now ticket counter.old }
     ensures counter { counter.new
         ≡ page_counter none shape cells.now order.now ticket counter.old budget table.old }
     ensures table { table.new
         ≡ page_table none shape cells.now order.now ticket counter.old budget table.old }
 {
-    let cause = plan_cause(shape, cells);
-    if cause != 0 {
-        return refused_page(cause, ticket);
-    }
     let none = [0u32; 1];
-    page_on(
-        shape, cells, false, &none, order, ticket, counter, budget, table,
-    )
+    match check_plan(shape, cells) {
+        Ok(()) => page_on(
+            shape, cells, false, &none, order, ticket, counter, budget, table,
+        ),
+        Err(cause) => refused_page(cause, ticket),
+    }
 }
 
 // A page of the timed walk of a plan from a ticket on; `hours` has a window of the week for each rectangle (02, Q-12).
@@ -100,9 +89,9 @@ pub fn timed_page(
     budget: u32,
     table: &mut [u32],
 ) -> Page
-    ensures answer { result
+    ensures answer { page_told result
         ≡ page_call (some hours.now) shape cells.now order.now ticket counter.old budget table.old }
-    ensures number { stop_number result.stop
+    ensures number { stop_number (page_told result).stop
         ≡ page_cause (some hours.now) shape cells.now order.now ticket counter.old }
     ensures counter { counter.new
         ≡ page_counter (some hours.now) shape cells.now order.now
@@ -111,11 +100,10 @@ pub fn timed_page(
         ≡ page_table (some hours.now) shape cells.now order.now
         ticket counter.old budget table.old }
 {
-    let cause = hours_cause(shape, cells, hours);
-    if cause != 0 {
-        return refused_page(cause, ticket);
+    match check_hours(shape, cells, hours) {
+        Ok(()) => page_on(
+            shape, cells, true, hours, order, ticket, counter, budget, table,
+        ),
+        Err(cause) => refused_page(cause, ticket),
     }
-    page_on(
-        shape, cells, true, hours, order, ticket, counter, budget, table,
-    )
 }

@@ -32,9 +32,10 @@ use Rattle.timed.specs.Timed.{Held}
 use Rattle.windows.proofs.Theorems as Windows
 use Rattle.paging.specs.declared.Cursor.{Cursor}
 use Rattle.paging.specs.declared.Ticket.{Ticket}
-use Rattle.paging.specs.declared.Page.{Page}
-use Rattle.paging.specs.declared.Run.{Run}
-use Rattle.search.specs.declared.Stop.TheVariants.{Refused}
+use Rattle.paging.specs.Answers.{PageValues}
+use Rattle.std.specs.Prelude.{Err}
+use Rattle.paging.specs.Answers.{Run}
+use Rattle.search.specs.Stops.{Refused}
 use Rattle.paging.specs.Overlays.{Overlay, overlay_of}
 use Rattle.paging.specs.Cursors.{resume}
 use Rattle.paging.specs.Pages.{room, paged}
@@ -281,7 +282,7 @@ pub stop-none : {S : Type 0} (o : Overlay S) (c : Cursor) (budget : ℕ) (table 
 stop-none o c budget table = ⊎_elim (λ e. rw e) (⊎_elim (λ e. rw e) (λ e. rw e)) (page-stops row_of budget (room o table) (list_in (resume o c)))
 
 -- the number that a page call tells, where the page that it is due is accepted
-stop-on : (c : ℕ) (p : Page) (t : Ticket) → stop_number p.stop ≡ 0 → stop_number (on_cause c p (refused_page t)).stop ≡ c
+stop-on : (c : ℕ) (p : PageValues) (t : Ticket) → stop_number p.stop ≡ 0 → stop_number (on_cause c p (refused_page t)).stop ≡ c
 stop-on zero p t e = e
 stop-on (suc c) p t e = refl
 
@@ -300,6 +301,6 @@ unfolding page_call page_table page_counter
 refused-page x n e = (rw e, rw e, rw e)
 
 pub refused-run : (windows : Option (List ℕ)) (s : Shape) (cells : List ℤ) (order table : List ℕ) (work n : ℕ) → run_cause windows s cells order table work ≡ suc n
-    → (run_call windows s cells order table work ≡ Run.Refused (suc n)) × (run_table windows s cells order table work ≡ table)
+    → (run_call windows s cells order table work ≡ Err (suc n)) × (run_table windows s cells order table work ≡ table)
 unfolding run_call run_table
 refused-run windows s cells order table work n e = (rw e, rw e)

@@ -11,7 +11,7 @@ use Rattle.lists.proofs.Lists.{all_of_map}
 use Rattle.search.specs.Traversal.{Probe, Row, row_of}
 use Rattle.search.specs.Paging.{Paged, page}
 use Rattle.search.proofs.Paging.{page-rows, page-room, page-ended, page-going, page-rest, page-stops, page-full, page-spent}
-use Rattle.search.specs.declared.Stop.TheVariants.{Full, Spent}
+use Rattle.search.specs.Stops.{Full, Spent}
 use Rattle.walk.specs.Walk.{places_of}
 use Rattle.paging.specs.Overlays.{Overlay}
 use Rattle.paging.specs.Cursors.{resume, due_cursor}

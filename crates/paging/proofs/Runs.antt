@@ -16,7 +16,7 @@ use Rattle.plan.proofs.Plan.{or-else-zero, unless-zero}
 use Rattle.plan.proofs.Theorems.{plans}
 use Rattle.sweep.specs.Sweep.{order_cause}
 use Rattle.windows.specs.HoursCall.{hours_cause}
-use Rattle.paging.specs.declared.Run.{Run}
+use Rattle.paging.specs.Answers.{Run}
 use Rattle.paging.specs.Overlays.{Overlay, overlay, overlay_of}
 use Rattle.paging.specs.Pages.{room}
 use Rattle.paging.specs.Calls.{run_cause, run_call, run_table}

@@ -1,6 +1,6 @@
 -- What the fresh-ticket call, the page call and the whole run answer (01, "The walk" and "Causes and their numbers"), the last two in their timed form
 -- too (02, Q-12). A counter is 02's run record (Q-5), a lent list of cells.
-use Rattle.std.specs.Prelude.{List, [], ◌∷◌, map, Bool, ◌&&◌, ◌≡◌, ℕ, ◌+◌, ◌*◌, ℤ, eqb, leb, ltb, length, get_or}
+use Rattle.std.specs.Prelude.{List, [], ◌∷◌, map, Bool, ◌&&◌, ◌≡◌, ℕ, ◌+◌, ◌*◌, ℤ, eqb, leb, ltb, length, get_or, Ok, Err}
 use Rattle.std.proofs.Math.Option.{Option}
 use Rattle.lists.specs.Lists.{is_some, same}
 use Rattle.totals.specs.declared.Total.{Total}
@@ -13,11 +13,8 @@ use Rattle.ground.specs.Union.{union_of, grounds}
 use Rattle.walk.specs.Walk.{places_of}
 use Rattle.windows.specs.HoursCall.{hours_cause}
 use Rattle.paging.specs.declared.Ticket.{Ticket}
-use Rattle.paging.specs.declared.Fresh.{Fresh}
-use Rattle.paging.specs.declared.Page.{Page}
-use Rattle.search.specs.declared.Stop.{Stop}
-use Rattle.search.specs.declared.Stop.TheVariants.{Ended, Full, Spent, Refused}
-use Rattle.paging.specs.declared.Run.{Run}
+use Rattle.search.specs.Stops.{Stop, Ended, Full, Spent, Refused}
+use Rattle.paging.specs.Answers.{FreshValues, PageValues, Run, ran}
 use Rattle.paging.specs.Overlays.{overlay, overlay_of}
 use Rattle.paging.specs.Cursors.{ended_cursor, due_cursor, resume}
 use Rattle.rows.specs.Tables.{fill}
@@ -43,7 +40,7 @@ module _ (s : Shape) (cells : List ℤ) (order counter : List ℕ) where
   fresh_cause = order_cause s cells order or_else unless (one_cell counter) 18
 
   -- 01: "takes plan and order and returns the fresh ticket: the first trial, or Ended where the walk is empty"; a refusal returns Ended. No probe is done
-  unfoldable pub fresh_call : Fresh
+  unfoldable pub fresh_call : FreshValues
   fresh_call =
       let o = overlay s cells in
       on_cause fresh_cause (record { number = 0; ticket = record { cursor = due_cursor o.sizes o.walk; count = 0 } })
@@ -62,7 +59,7 @@ stop_number Spent = 0
 stop_number (Refused cause) = cause
 
 -- 01: "A refusal returns its number and 0 for all else; a page call also returns its ticket as given"
-abbrev pub refused_page : Ticket → ℕ → Page
+abbrev pub refused_page : Ticket → ℕ → PageValues
 refused_page t cause = record { stop = Refused cause; rows = 0; probes = 0; area = total_of 0; ticket = t }
 
 module _ (windows : Option (List ℕ)) (s : Shape) (cells : List ℤ) (order : List ℕ) (t : Ticket) (counter : List ℕ) where
@@ -77,7 +74,7 @@ module _ (windows : Option (List ℕ)) (s : Shape) (cells : List ℤ) (order : L
 module _ (windows : Option (List ℕ)) (s : Shape) (cells : List ℤ) (order : List ℕ)
     (t : Ticket) (counter : List ℕ) (budget : ℕ) (table : List ℕ) where
   -- what it answers
-  unfoldable pub page_call : Page
+  unfoldable pub page_call : PageValues
   page_call =
       let o = overlay_of windows s cells in
       on_cause (page_cause windows s cells order t counter) (page_of o t.count (paged o t.cursor budget table)) (refused_page t)
@@ -112,7 +109,7 @@ module _ (windows : Option (List ℕ)) (s : Shape) (cells : List ℤ) (order tab
   unfoldable pub run_call : Run
   run_call =
       let o = overlay_of windows s cells in
-      on_cause run_cause (Run.Done (length o.table) (length o.walk) (area_sum o o.table) (ground_once (layers s cells) o.table)) (λ n. Run.Refused n)
+      on_cause run_cause (ran (length o.table) (length o.walk) (area_sum o o.table) (ground_once (layers s cells) o.table)) Err
 
   -- the table afterwards: filled with all rows, or after a refusal what it was
   unfoldable pub run_table : List ℕ
@@ -133,5 +130,5 @@ pub record RunValues : Type 0 where
   pub ground : Total
 
 abbrev pub run_values : Run → RunValues
-run_values (Run.Refused cause) = record { number = cause; rows = 0; probes = 0; area = total_of 0; ground = total_of 0 }
-run_values (Run.Done rows probes area ground) = record { number = 0; rows = rows; probes = probes; area = area; ground = ground }
+run_values (Err cause) = record { number = cause; rows = 0; probes = 0; area = total_of 0; ground = total_of 0 }
+run_values (Ok done) = record { number = 0; rows = done.rows; probes = done.probes; area = done.area; ground = done.ground }

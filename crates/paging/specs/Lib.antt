@@ -1,3 +1,4 @@
+pub mod Answers
 pub mod Overlays
 pub mod Cursors
 pub mod Pages

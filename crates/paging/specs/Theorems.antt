@@ -1,12 +1,13 @@
 -- Theorem: what each call answers: the causes that refuse it, what a cursor says, a page, a whole run. Demand 3, which is of lists of calls, stands on it in
 -- the crate demands. Proved in proofs/Theorems.antt. `takes`, `no_trial` and the bound of a counter repeat definitions on purpose, in the papers' figures.
-use Rattle.std.specs.Prelude.{◌≡◌, List, [], ◌∷◌, map, true, false, ◌↔◌, ◌⊎◌, ℕ, suc, ◌+◌, ◌*◌, ◌/◌, ◌≤◌, ◌<◌, min, ℤ, length, get_or, take, drop}
+use Rattle.std.specs.Prelude.{◌≡◌, List, [], ◌∷◌, map, true, false, ◌↔◌, ◌⊎◌, ℕ, suc, ◌+◌, ◌*◌, ◌/◌, ◌≤◌, ◌<◌, min, ℤ, length, get_or, take, drop, Ok, Err}
 use Rattle.std.proofs.Math.Option.{Option, none, some}
 use Rattle.lists.specs.Lists.{sum, is_some}
 use Rattle.totals.specs.declared.Total.{Total}
 use Rattle.totals.specs.Totals.{total_of}
 use Rattle.plan.specs.declared.Shape.{Shape}
-use Rattle.plan.specs.Causes.{Check, Passed}
+use Rattle.plan.specs.declared.cause.Cause.{Cause}
+use Rattle.plan.specs.Causes.{number_of, Check, Passed}
 use Rattle.plan.specs.Plan.{grown, layers, Typed, Sound}
 use Rattle.plan.specs.Spots.{spot_of}
 use Rattle.plan.specs.Theorems.{PlanChecks}
@@ -15,14 +16,16 @@ use Rattle.rows.specs.Tables.{rows_in}
 use Rattle.ground.specs.Union.{union_of, grounds}
 use Rattle.search.specs.Traversal.{Probe, row_of}
 use Rattle.search.specs.Paging.{rows_of}
-use Rattle.search.specs.declared.Stop.TheVariants.{Ended, Full, Spent, Refused}
+use Rattle.search.specs.Stops.{Ended, Full, Spent, Refused}
 use Rattle.walk.specs.Walk.{places_of}
 use Rattle.windows.specs.Theorems.{Stated}
 use Rattle.timed.specs.Timed.{Held}
 use Rattle.paging.specs.declared.Cursor.{Cursor}
 use Rattle.paging.specs.declared.Ticket.{Ticket}
 use Rattle.paging.specs.declared.Page.{Page}
-use Rattle.paging.specs.declared.Run.{Run}
+use Rattle.paging.specs.declared.Stop.TheVariants as said
+use Rattle.paging.specs.Answers.{PageValues, fresh_told, stop_told, page_told}
+use Rattle.paging.specs.Answers.{Run, ran}
 use Rattle.paging.specs.Overlays.{Overlay, overlay_of}
 use Rattle.paging.specs.Calls.{fresh_cause, fresh_call, fresh_counter, stop_number, page_cause, page_call, page_table, page_counter}
 use Rattle.paging.specs.Calls.{run_cause, run_call, run_table, run_values, WorkAfter}
@@ -47,7 +50,7 @@ overlay_at x = overlay_of x.windows x.shape x.cells
 abbrev pub cause : Call → ℕ
 cause x = page_cause x.windows x.shape x.cells x.order x.ticket x.counter
 
-abbrev pub answer : Call → Page
+abbrev pub answer : Call → PageValues
 answer x = page_call x.windows x.shape x.cells x.order x.ticket x.counter x.budget x.table
 
 abbrev pub table_after : Call → List ℕ
@@ -107,7 +110,7 @@ abbrev pub OrderChecks : (windows : Option (List ℕ)) → Shape → List ℤ �
 OrderChecks windows s cells order Next = PlanChecks s cells (Check 24 (Hours windows s) (Check 5 (order ≡ sweep_order (grown s cells)) Next))
 
 -- ---- one accepted page call on an overlay: w is what is left of the walk at its ticket, p what it answers, and the table is left so
-pub record PageHolds {S : Type 0} (o : Overlay S) (x : Call) (w : List (Probe S)) (p : Page) (left : List ℕ) : Type 0 where
+pub record PageHolds {S : Type 0} (o : Overlay S) (x : Call) (w : List (Probe S)) (p : PageValues) (left : List ℕ) : Type 0 where
   -- it does the first probes that are left, and puts out the rows that they yield
   pub rows : rows_in (row_size o) p.rows left ≡ map (places_of o.sizes) (rows_of row_of (take p.probes w))
   -- 01: "Before each trial it asks in this order: walk over, stop with Ended; table full, stop with Full; trials done equal the budget, stop with Spent."
@@ -132,7 +135,7 @@ pub record RunHolds (s : Shape) (cells : List ℤ) {S : Type 0} (o : Overlay S) 
   pub rows : refusal ≡ 0 → rows_in s.k (length o.table) left ≡ o.table
   -- the sum of the areas, and 02, Q-6: "the union of all rows' common ground". The crate ground says what it is: `UnionHolds` of any list of rectangles
   -- (`most`, `least`: its bounds), `TableUnions` that `grounds` are those of rows, in range, and so of the rows that a timed run keeps
-  pub done : refusal ≡ 0 → told ≡ Run.Done (length o.table) (length o.walk) (total_of (sum (map o.area o.table)))
+  pub done : refusal ≡ 0 → told ≡ ran (length o.table) (length o.walk) (total_of (sum (map o.area o.table)))
       (total_of (union_of (grounds (layers s cells) o.table)))
   -- the rest of the table is kept
   pub long : length left ≡ length table
@@ -150,7 +153,7 @@ pub record AnswersHold {S : Type 0} (o : Overlay S) (windows : Option (List ℕ)
       → (fresh_call s cells order counter ≡ record { number = suc n; ticket = record { cursor = no_trial; count = 0 } })
       × (fresh_counter s cells order counter ≡ counter)
   pub run_refused : (n : ℕ) → run_cause windows s cells order table work ≡ suc n
-      → (run_call windows s cells order table work ≡ Run.Refused (suc n)) × (run_table windows s cells order table work ≡ table)
+      → (run_call windows s cells order table work ≡ Err (suc n)) × (run_table windows s cells order table work ≡ table)
   -- 01: "returns the fresh ticket: the first trial, or Ended where the walk is empty": that of the whole walk, and of the timed one too. 02: "A fresh start
   -- writes 0"
   pub fresh : Typed s → fresh_cause s cells order counter ≡ 0 → let f = fresh_call s cells order counter in
@@ -169,13 +172,20 @@ pub record Answers : Type 0 where
       → (answer x ≡ record { stop = Refused (suc n); rows = 0; probes = 0; area = total_of 0; ticket = x.ticket }) × (table_after x ≡ x.table)
       × (counted x ≡ x.counter)
   -- 01's number of each stop
+  -- what a fresh ticket's answer, a stop and a page say
+  pub fresh_answer : (t : Ticket) (c : Cause) → (fresh_told (Ok t) ≡ record { number = 0; ticket = t })
+      × (fresh_told (Err c) ≡ record { number = number_of c; ticket = record { cursor = no_trial; count = 0 } })
+  pub stop_answer : (stop_told said.Ended ≡ Ended) × (stop_told said.Full ≡ Full) × (stop_told said.Spent ≡ Spent)
+      × ((c : Cause) → stop_told (said.Refused c) ≡ Refused (number_of c))
+  pub page_answer : (p : Page)
+      → page_told p ≡ record { stop = stop_told p.stop; rows = p.rows; probes = p.probes; area = p.area; ticket = p.ticket }
   pub page_number : (stop_number Ended ≡ 0) × (stop_number Full ≡ 0) × (stop_number Spent ≡ 0) × ((n : ℕ) → stop_number (Refused n) ≡ n)
   -- an accepted one, by what is left at its cursor: `page_causes` has that something is
   pub page : (x : Call) (n : ℕ) → Typed x.shape → cause x ≡ 0 → let o = overlay_at x in
       Due o.sizes x.ticket.cursor (drop n o.walk) → PageHolds o x (drop n o.walk) (answer x) (table_after x)
   -- 01's number and values of what a whole run answers
   pub values_of_run : (n rows probes : ℕ) (area ground : Total)
-      → (run_values (Run.Refused n) ≡ record { number = n; rows = 0; probes = 0; area = total_of 0; ground = total_of 0 })
-      × (run_values (Run.Done rows probes area ground) ≡ record { number = 0; rows = rows; probes = probes; area = area; ground = ground })
+      → (run_values (Err n) ≡ record { number = n; rows = 0; probes = 0; area = total_of 0; ground = total_of 0 })
+      × (run_values (ran rows probes area ground) ≡ record { number = 0; rows = rows; probes = probes; area = area; ground = ground })
   -- the work buffer of a run. 02, Q-6: its "contents afterwards are free", but for its length; after a refusal it "too is then left as it was"
   pub work : (n : ℕ) (before left : List ℤ) → WorkAfter n before left ↔ ((length left ≡ length before) × (0 < n → left ≡ before))

@@ -2,8 +2,7 @@
 // calls is in the crate `demands`, the code of the calls in the crates `pager` and `runner`.
 #![tactic(auto)]
 
-use plan::MOST_SLOTS;
-use search::Stop;
+use plan::{Cause, MOST_SLOTS};
 use totals::Total;
 
 // 2^57: more probes than any walk has, so a counter that a page call takes is below it.
@@ -28,15 +27,17 @@ pub struct Ticket {
     pub count: u64,
 }
 
-// What the fresh-ticket call answers: the number of a refusal or 0, and the ticket of the first probe, or ended.
+// Why a page stopped: no probe is left, the table is full, the budget is spent; or it was refused.
 #[derive(Clone, Copy)]
-pub struct Fresh {
-    pub number: u32,
-    pub ticket: Ticket,
+pub enum Stop {
+    Ended,
+    Full,
+    Spent,
+    Refused(Cause),
 }
 
 // What the page call answers: why it stopped, how many rows it put into the table, how many probes it did, the sum of its rows'
-// areas, and the ticket for what is due next.
+// areas, and the ticket for what is due next. A refused page has the ticket that was given.
 #[derive(Clone, Copy)]
 pub struct Page {
     pub stop: Stop,
@@ -46,9 +47,11 @@ pub struct Page {
     pub ticket: Ticket,
 }
 
-// What the whole run answers: how many rows, how many probes, the sum of the areas, and the ground of all rows counted once.
+// What a whole run has done: how many rows, how many probes, the sum of the areas, and the ground of all rows counted once.
 #[derive(Clone, Copy)]
-pub enum Run {
-    Refused(u32),
-    Done(u32, u64, Total, Total),
+pub struct Done {
+    pub rows: u32,
+    pub probes: u64,
+    pub area: Total,
+    pub ground: Total,
 }

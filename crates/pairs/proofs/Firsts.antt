@@ -12,9 +12,9 @@ use Rattle.lists.specs.Lists.{All, none_left, ◌and◌, Pairwise, done, ◌then
 use Rattle.lists.proofs.Lists.{all_get_d}
 use Rattle.geometry.specs.declared.Rect.{Rect}
 use Rattle.geometry.specs.Rectangles.{meets}
-use Rattle.pairs.specs.declared.PairAnswer.{PairAnswer}
-use Rattle.pairs.specs.declared.PairAnswer.TheVariants.{Share, Pair}
-use Rattle.pairs.specs.PairCall.{apart_at, first_pair}
+use Rattle.std.specs.Prelude.{Option, None}
+use Rattle.pairs.specs.declared.Pair.{Pair}
+use Rattle.pairs.specs.PairCall.{apart, apart_at, first_pair}
 
 -- ---- one rectangle and those behind it
 module _ (r d : Rect) where
@@ -53,9 +53,9 @@ pub record FirstAt (d : Rect) (rs : List Rect) (i j : ℕ) : Type 0 where
   pub earlier : (a b : ℕ) → a < b → b < length rs → (a < i) ⊎ ((a ≡ i) × (b < j)) → meets (get_or rs a d) (get_or rs b d) ≡ true
 
 -- an answer for rectangles of layer n and later ones
-pub data Found (d : Rect) (n : ℕ) (rs : List Rect) : PairAnswer → Type 0 where
-  none_apart : Pairwise (λ a b. meets a b ≡ true) rs → Found d n rs Share
-  apart_in : (i j a b : ℕ) → a ≡ n + i → b ≡ n + j → FirstAt d rs i j → Found d n rs (Pair a b)
+pub data Found (d : Rect) (n : ℕ) (rs : List Rect) : Option Pair → Type 0 where
+  none_apart : Pairwise (λ a b. meets a b ≡ true) rs → Found d n rs None
+  apart_in : (i j a b : ℕ) → a ≡ n + i → b ≡ n + j → FirstAt d rs i j → Found d n rs (apart a b)
 
 module _ (d r : Rect) (rs : List Rect) where
   -- it begins with the first rectangle
@@ -82,10 +82,10 @@ pub found : (d : Rect) (n : ℕ) (rs : List Rect) → Found d n rs (first_pair n
 found d n [] = none_apart done
 found d n (r ∷ rs) = go (ltb (apart_at r rs) (length rs)) refl (found d (suc n) rs)
   where
-    later : length rs ≤ apart_at r rs → {v : PairAnswer} → Found d (suc n) rs v → Found d n (r ∷ rs) v
+    later : length rs ≤ apart_at r rs → {v : Option Pair} → Found d (suc n) rs v → Found d n (r ∷ rs) v
     later h (none_apart m) = none_apart (◌then◌ (all_meet r d rs h) m)
     later h (apart_in i j a b p q f) = apart_in (suc i) (suc j) a b (omega arith) (omega arith) (first-later d r rs i j (all_meet r d rs h) f)
 
-    go : (t : Bool) → ltb (apart_at r rs) (length rs) ≡ t → Found d (suc n) rs (first_pair (suc n) rs) → Found d n (r ∷ rs) (cond t (Pair n (suc n + apart_at r rs)) (first_pair (suc n) rs))
+    go : (t : Bool) → ltb (apart_at r rs) (length rs) ≡ t → Found d (suc n) rs (first_pair (suc n) rs) → Found d n (r ∷ rs) (cond t (apart n (suc n + apart_at r rs)) (first_pair (suc n) rs))
     go true e f = apart_in 0 (suc (apart_at r rs)) n (suc n + apart_at r rs) (omega arith) (omega arith) (first-here d r rs (ltb-true (apart_at r rs) (length rs) e))
     go false e f = later (ltb-false (apart_at r rs) (length rs) e) f

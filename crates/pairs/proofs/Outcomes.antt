@@ -16,9 +16,9 @@ use Rattle.plan.specs.Plan.{Layer}
 use Rattle.plan.specs.Spots.{rect_of}
 use Rattle.join.specs.Join.{Within, no_layer, ◌below◌, rects, InJoin, common_of}
 use Rattle.join.proofs.Table.{within-long}
-use Rattle.pairs.specs.declared.PairAnswer.{PairAnswer}
-use Rattle.pairs.specs.declared.PairAnswer.TheVariants.{Share, Pair}
-use Rattle.pairs.specs.PairCall.{first_pair}
+use Rattle.std.specs.Prelude.{Option, None, Result, Ok}
+use Rattle.pairs.specs.declared.Pair.{Pair}
+use Rattle.pairs.specs.PairCall.{apart, first_pair}
 use Rattle.pairs.specs.Theorems.{chosen, IsPair, IsFirstPair}
 use Rattle.pairs.proofs.Boxes.{pairs-point, meet-meets}
 use Rattle.pairs.proofs.Firsts.{FirstAt, Found, none_apart, apart_in, found}
@@ -78,14 +78,14 @@ first_one {i = i} {j} {a} {b} f g = go (f.first a b g.pair) (g.first i j f.pair)
     go (inr p) (inr q) = (p.0, omega (arith, p.1, q.1))
 
 -- ---- the answer
-pub data Outcome (ls : List Layer) (row : List ℕ) (v : PairAnswer) : Type 0 where
-  shares : v ≡ Share → InJoin ls row → Outcome ls row v
-  clears : (i j : ℕ) → v ≡ Pair (suc i) (suc j) → IsFirstPair ls row i j → Outcome ls row v
+pub data Outcome (ls : List Layer) (row : List ℕ) (v : Result (Option Pair) ℕ) : Type 0 where
+  shares : v ≡ Ok None → InJoin ls row → Outcome ls row v
+  clears : (i j : ℕ) → v ≡ Ok (apart (suc i) (suc j)) → IsFirstPair ls row i j → Outcome ls row v
 
-pub outcome : {ls : List Layer} {row : List ℕ} → Within ls row → All (λ r. nonempty r ≡ true) (rects ls row) → Outcome ls row (first_pair 1 (rects ls row))
+pub outcome : {ls : List Layer} {row : List ℕ} → Within ls row → All (λ r. nonempty r ≡ true) (rects ls row) → Outcome ls row (Ok (first_pair 1 (rects ls row)))
 outcome {ls} {row} w s = go (found nowhere 1 (rects ls row))
   where
-    go : {v : PairAnswer} → Found nowhere 1 (rects ls row) v → Outcome ls row v
+    go : {v : Option Pair} → Found nowhere 1 (rects ls row) v → Outcome ls row (Ok v)
     go (none_apart m) = let p = pairs-point s m in shares refl (record { within = w; x = p.0; y = p.1; inside = p.2 })
     go (apart_in i j a b p q f) =
         let m : a ≡ suc i = omega arith in

@@ -19,9 +19,9 @@ use Rattle.rows.specs.RowCall.{fits}
 use Rattle.rows.specs.inner.Layers.{Reached, rects_from}
 use Rattle.rows.proofs.RowCall.{fits-long}
 use Rattle.rows.proofs.Layers.{reached-none, reached-next, rects-next, rects-end}
-use Rattle.pairs.specs.declared.PairAnswer.{PairAnswer}
-use Rattle.pairs.specs.declared.PairAnswer.TheVariants.{Refused, Share, Pair}
-use Rattle.pairs.specs.PairCall.{apart_at, first_pair, pair_cause, pair_call}
+use Rattle.std.specs.Prelude.{Option, None, Result, Ok, Err}
+use Rattle.pairs.specs.declared.Pair.{Pair}
+use Rattle.pairs.specs.PairCall.{apart, apart_at, first_pair, pair_cause, pair_call}
 use Rattle.pairs.specs.inner.Told.{told}
 
 -- ---- one rectangle against those of the later layers: those before layer j meet it
@@ -72,13 +72,13 @@ module _ (sizes : List ℕ) (cells : List ℤ) (row : List ℕ) (start i : ℕ) 
       let l = rects-long (drop (i + 1) sizes) (drop (4 * (start + get_or sizes i 0)) cells) (drop (i + 1) row) (omega (arith, fits-long sizes row e)) in
       omega arith
 
-  turn : cond (ltb (apart_at r others) (length others)) (Pair (suc i) (suc (suc i) + apart_at r others)) (first_pair (suc (suc i)) others) ≡ first_pair 1 (rects (layers_of sizes cells) row)
+  turn : cond (ltb (apart_at r others) (length others)) (apart (suc i) (suc (suc i) + apart_at r others)) (first_pair (suc (suc i)) others) ≡ first_pair 1 (rects (layers_of sizes cells) row)
   turn = ap (first_pair (suc i)) (sym (rects-next sizes start i t.reached h cells row e r p)) ∙ t.same
 
-  pub paired-found : j < length sizes → Pair (i + 1) (j + 1) ≡ first_pair 1 (rects (layers_of sizes cells) row)
+  pub paired-found : j < length sizes → apart (i + 1) (j + 1) ≡ first_pair 1 (rects (layers_of sizes cells) row)
   paired-found l =
       let b : j + 1 ≡ suc (suc i) + apart_at r others = omega arith in
-      ap₂ Pair (add-one i) b ∙ sym (rw (lt-ltb (apart_at r others) (length others) (omega (arith, others-long)))) ∙ turn
+      ap₂ apart (add-one i) b ∙ sym (rw (lt-ltb (apart_at r others) (length others) (omega (arith, others-long)))) ∙ turn
 
   pub paired-more : length sizes ≤ j → Paired sizes cells row (start + get_or sizes i 0) (i + 1)
   paired-more l = record {
@@ -87,29 +87,29 @@ module _ (sizes : List ℕ) (cells : List ℤ) (row : List ℕ) (start i : ℕ) 
   }
 
 pub paired-end : (sizes : List ℕ) (cells : List ℤ) (row : List ℕ) (start i : ℕ) → Paired sizes cells row start i → length sizes ≤ i
-    → Share ≡ first_pair 1 (rects (layers_of sizes cells) row)
+    → None ≡ first_pair 1 (rects (layers_of sizes cells) row)
 paired-end sizes cells row start i t h = sym (ap (first_pair (suc i)) (rects-end sizes cells row start i h)) ∙ t.same
 
 -- ---- the answer
 module _ (sizes : List ℕ) (cells : List ℤ) (row : List ℕ) where
-  pub told-misfit : fits sizes row ≡ false → Refused 23 ≡ told sizes cells row
+  pub told-misfit : fits sizes row ≡ false → Err 23 ≡ told sizes cells row
   unfolding told
   told-misfit e = rw e
 
-  pub told_fit : fits sizes row ≡ true → (r : PairAnswer) → r ≡ first_pair 1 (rects (layers_of sizes cells) row) → r ≡ told sizes cells row
+  pub told_fit : fits sizes row ≡ true → (r : Option Pair) → r ≡ first_pair 1 (rects (layers_of sizes cells) row) → Ok r ≡ told sizes cells row
   unfolding told
-  told_fit e r q = rw e q
+  told_fit e r q = rw e (ap Ok q)
 
 module _ (s : Shape) (cells : List ℤ) (row : List ℕ) where
-  pub pair-refused : (n : ℕ) → n ≡ plan_cause s cells → (n ≡ 0 → ⊥) → Refused n ≡ pair_call s cells row
+  pub pair-refused : (n : ℕ) → n ≡ plan_cause s cells → (n ≡ 0 → ⊥) → Err n ≡ pair_call s cells row
   unfolding pair_call pair_cause
   pair-refused zero e h = absurd (h refl)
   pair-refused (suc n) e h = rw (← e)
 
-  pub pair-accepted : (r : PairAnswer) → Sound s cells → r ≡ told (sizes_of s) (grown s cells) row → r ≡ pair_call s cells row
+  pub pair-accepted : (r : Result (Option Pair) ℕ) → Sound s cells → r ≡ told (sizes_of s) (grown s cells) row → r ≡ pair_call s cells row
   unfolding pair_call pair_cause told
   pair-accepted r h e = rw h.passed (e ∙ go (fits (sizes_of s) row))
     where
-      go : (t : Bool) → cond t (first_pair 1 (rects (layers_of (sizes_of s) (grown s cells)) row)) (Refused 23) ≡ on_cause (unless t 23) (first_pair 1 (rects (layers_of (sizes_of s) (grown s cells)) row)) (λ n. Refused n)
+      go : (t : Bool) → cond t (Ok (first_pair 1 (rects (layers_of (sizes_of s) (grown s cells)) row))) (Err 23) ≡ on_cause (unless t 23) (Ok (first_pair 1 (rects (layers_of (sizes_of s) (grown s cells)) row))) Err
       go true = refl
       go false = refl

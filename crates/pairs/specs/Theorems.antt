@@ -1,5 +1,5 @@
 -- Theorem: what the pair call answers for every sound plan and all places, for every k (02, Q-11). Proved in proofs/Theorems.antt.
-use Rattle.std.specs.Prelude.{◌≡◌, List, ◌↔◌, ◌⊎◌, ℕ, suc, ◌≤◌, ◌<◌, ℤ, length, get_or}
+use Rattle.std.specs.Prelude.{◌≡◌, List, ◌↔◌, ◌⊎◌, ℕ, suc, ◌≤◌, ◌<◌, ℤ, length, get_or, Option, None, Result, Ok, Err}
 use Rattle.lists.specs.Lists.{All, Pairwise}
 use Rattle.geometry.specs.declared.Rect.{Rect}
 use Rattle.geometry.specs.Rectangles.{In}
@@ -10,9 +10,8 @@ use Rattle.plan.specs.Plan.{Layer, layers, Sound}
 use Rattle.plan.specs.Theorems.{PlanChecks}
 use Rattle.plan.specs.Spots.{rect_of}
 use Rattle.join.specs.Join.{Within, InJoin}
-use Rattle.pairs.specs.declared.PairAnswer.{PairAnswer}
-use Rattle.pairs.specs.declared.PairAnswer.TheVariants.{Refused, Share, Pair}
-use Rattle.pairs.specs.PairCall.{pair_cause, pair_call, pair_values}
+use Rattle.pairs.specs.declared.Pair.{Pair}
+use Rattle.pairs.specs.PairCall.{apart, pair_cause, pair_call, pair_values}
 
 -- the rectangle holds a point
 abbrev pub HoldsPoint : Rect → Type 0
@@ -36,13 +35,13 @@ pub record IsFirstPair (ls : List Layer) (row : List ℕ) (i j : ℕ) : Type 0 w
 
 -- ---- the call
 -- what is answered for one place in each layer of a sound plan
-pub record PairHolds (ls : List Layer) (row : List ℕ) (answer : PairAnswer) : Type 0 where
+pub record PairHolds (ls : List Layer) (row : List ℕ) (answer : Result (Option Pair) ℕ) : Type 0 where
   -- "either that they share a point": exactly when they do
-  pub share : (answer ≡ Share) ↔ InJoin ls row
+  pub share : (answer ≡ Ok None) ↔ InJoin ls row
   -- "or the first pair of layers", told from 1: exactly when it is that
-  pub first : (i j : ℕ) → (answer ≡ Pair (suc i) (suc j)) ↔ IsFirstPair ls row i j
+  pub first : (i j : ℕ) → (answer ≡ Ok (apart (suc i) (suc j))) ↔ IsFirstPair ls row i j
   -- it is one of the two
-  pub either : (answer ≡ Share) ⊎ ((i : ℕ) × (j : ℕ) × (answer ≡ Pair (suc i) (suc j)))
+  pub either : (answer ≡ Ok None) ⊎ ((i : ℕ) × (j : ℕ) × (answer ≡ Ok (apart (suc i) (suc j))))
   -- "Such a pair is there exactly when the combination has no common point"
   pub exactly : ((i : ℕ) × (j : ℕ) × IsPair ls row i j) ↔ (InJoin ls row → ⊥)
   -- "the smallest part of it that shows this": no row of J has the two rectangles of such a pair, whatever the others are ...
@@ -54,7 +53,7 @@ pub record PairHolds (ls : List Layer) (row : List ℕ) (answer : PairAnswer) : 
 pub record PairCalls (s : Shape) (cells : List ℤ) (row : List ℕ) : Type 0 where
   -- the causes: a plan's, then 23, "not k places, or a place not in its layer"
   pub causes : PlanChecks s cells (Check 23 (Within (layers s cells) row) Passed) (pair_cause s cells row)
-  pub refused : (n : ℕ) → pair_cause s cells row ≡ suc n → pair_call s cells row ≡ Refused (suc n)
+  pub refused : (n : ℕ) → pair_cause s cells row ≡ suc n → pair_call s cells row ≡ Err (suc n)
   pub answer : Sound s cells → Within (layers s cells) row → PairHolds (layers s cells) row (pair_call s cells row)
 
 pub record Pairs : Type 0 where
@@ -62,6 +61,6 @@ pub record Pairs : Type 0 where
   pub helly : (rs : List Rect) → All HoldsPoint rs → ((x : ℤ) × (y : ℤ) × All (In x y) rs) ↔ Pairwise Meet rs
   pub calls : (s : Shape) (cells : List ℤ) (row : List ℕ) → PairCalls s cells row
   -- the number and values of each answer; "A refusal returns its number and 0 for all else"
-  pub share : pair_values Share ≡ record { number = 0; lower = 0; higher = 0 }
-  pub pair : (lower higher : ℕ) → pair_values (Pair lower higher) ≡ record { number = 0; lower = lower; higher = higher }
-  pub refused : (cause : ℕ) → pair_values (Refused cause) ≡ record { number = cause; lower = 0; higher = 0 }
+  pub share : pair_values (Ok None) ≡ record { number = 0; lower = 0; higher = 0 }
+  pub pair : (lower higher : ℕ) → pair_values (Ok (apart lower higher)) ≡ record { number = 0; lower = lower; higher = higher }
+  pub refused : (cause : ℕ) → pair_values (Err cause) ≡ record { number = cause; lower = 0; higher = 0 }

@@ -3,11 +3,9 @@
 // Upright rectangles have a common point exactly where each two of them meet, so two are enough to show that there is none.
 #![tactic(auto)]
 
-// What the pair call answers.
+// Two layers whose rectangles do not meet, from 1.
 #[derive(Clone, Copy)]
-pub enum PairAnswer {
-    Refused(u32),
-    Share,
-    // The lower layer and the higher, from 1.
-    Pair(u32, u32),
+pub struct Pair {
+    pub lower: u32,
+    pub higher: u32,
 }

@@ -1,118 +1,78 @@
 // The first pair of layers whose rectangles at the places do not meet (02, Q-11). What the call answers is defined in the crate `pairs`.
 #![tactic(auto)]
 
-ghost use Rattle.std.specs.Prelude.{◌≡◌, true, ◌+◌, ◌≤◌, length, take};
+ghost use Rattle.std.specs.Prelude.{◌≡◌, true, ◌+◌};
+ghost use Rattle.plan.specs.Causes.{by_number};
 ghost use Rattle.plan.specs.Plan.{layers_of};
 ghost use Rattle.join.specs.Join.{rects};
 ghost use Rattle.rows.specs.RowCall.{fits};
 ghost use Rattle.rows.specs.inner.Layers.{Reached, rects_from};
-ghost use Rattle.rows_code.specs.Reading.{widened, Readable};
+ghost use Rattle.rows_code.specs.Reading.{widened};
 ghost use Rattle.pairs.specs.PairCall.{apart_at, first_pair, pair_call, pair_values};
 ghost use Rattle.pairs.specs.inner.Told.{told};
 
-use geometry::{Meeting, Rect};
+use geometry::Rect;
 use geometry_code::meet;
-use pairs::PairAnswer;
-use plan::Shape;
-use plan_code::plan_cause;
-use rows_code::{all_fit, grown_in};
+use pairs::Pair;
+use plan::{Cause, Shape};
+use plan_code::check_plan;
+use rows_code::{Drawing, all_fit};
 
-// The cause of places that are not one in each layer.
-const PLACES: u32 = 23;
-
-// Whether the rectangles at the places share a point, or the first pair of layers whose two do not meet.
-pub fn apart_pair(shape: Shape, cells: &[i32], places: &[u32]) -> PairAnswer
-    ensures answer { result ≡ pair_call shape cells.now places.now }
-    ensures values { pair_values result ≡ pair_values (pair_call shape cells.now places.now) }
+// The first pair of layers whose rectangles at the places do not meet; none where they all share a point.
+pub fn apart_pair(shape: Shape, cells: &[i32], places: &[u32]) -> Result<Option<Pair>, Cause>
+    ensures answer { by_number result ≡ pair_call shape cells.now places.now }
+    ensures values { pair_values (by_number result) ≡ pair_values (pair_call shape cells.now places.now) }
 {
-    let cause = plan_cause(shape, cells);
-    if cause != 0 {
-        return PairAnswer::Refused(cause);
-    }
-    pair_told(
-        &shape.sizes,
-        &shape.margins,
-        shape.k as usize,
-        cells,
-        places,
-    )
+    check_plan(shape, cells)?;
+    pair_in(&Drawing::of(&shape, cells), places)
 }
 
-// The answer for the first k layers of a sound plan; only the rectangles at the places are grown.
-fn pair_told<'a>(
-    sizes: &'a [u32],
-    margins: &'a [u32],
-    k: usize,
-    cells: &[i32],
-    places: &[u32],
-) -> PairAnswer
-    requires { (k ≤ length sizes.now) × Readable (take k sizes.now) margins.now cells.now }
-    ensures { let ns = take k sizes.now in
-        result ≡ told ns (widened ns margins.now cells.now) places.now }
+// The answer for the layers of a plan.
+fn pair_in(drawing: &Drawing, row: &[u32]) -> Result<Option<Pair>, Cause>
+    ensures { let ns = drawing.now.sizes.now in
+        by_number result ≡ told ns (widened ns drawing.now.margins.now drawing.now.cells.now) row.now }
 {
-    pair_in(&sizes[..k], margins, cells, places)
-}
-
-fn pair_in(sizes: &[u32], margins: &[u32], cells: &[i32], row: &[u32]) -> PairAnswer
-    requires { Readable sizes.now margins.now cells.now }
-    ensures { let ns = sizes.now in result ≡ told ns (widened ns margins.now cells.now) row.now }
-{
-    if !all_fit(sizes, row) {
-        return PairAnswer::Refused(PLACES);
+    if !all_fit(drawing.sizes, row) {
+        return Err(Cause::WrongPlaces);
     }
-    first_pair(sizes, margins, cells, row)
+    Ok(first_pair(drawing, row))
 }
 
 // The first pair among the rectangles of a row that fits. Each pair is asked once at most.
-fn first_pair(sizes: &[u32], margins: &[u32], cells: &[i32], row: &[u32]) -> PairAnswer
-    requires readable { Readable sizes.now margins.now cells.now }
-    requires row_value { fits sizes.now row.now ≡ true }
-    ensures { let ns = sizes.now in
-        result ≡ first_pair 1 (rects (layers_of ns (widened ns margins.now cells.now)) row.now) }
+fn first_pair(drawing: &Drawing, row: &[u32]) -> Option<Pair>
+    requires { fits drawing.now.sizes.now row.now ≡ true }
+    ensures { let ns = drawing.now.sizes.now in
+        result ≡ first_pair 1 (rects (layers_of ns (widened ns drawing.now.margins.now drawing.now.cells.now)) row.now) }
 {
+    let sizes = drawing.sizes;
     let mut start = 0;
-    let mut i = 0;
-    while i < sizes.len() {
-        let size = sizes[i] as usize;
-        let r = grown_in(cells, start, size, row[i] as usize, margins[i]);
-        start += size;
-        i += 1;
-        let j = apart_from(r, sizes, margins, cells, row, start, i);
+    for i in 0..sizes.len() {
+        let r = drawing.rect(row, start, i);
+        start += sizes[i] as usize;
+        let j = apart_from(r, drawing, row, start, i + 1);
         if j < sizes.len() {
-            let low = i as u32;
-            let high = j as u32 + 1;
-            return PairAnswer::Pair(low, high);
+            let lower = i as u32 + 1;
+            let higher = j as u32 + 1;
+            return Some(Pair { lower, higher });
         }
     }
-    PairAnswer::Share
+    None
 }
 
 // The first layer, from 0, behind the first `after` ones whose rectangle does not meet r; k where each does.
-fn apart_from(
-    r: Rect,
-    sizes: &[u32],
-    margins: &[u32],
-    cells: &[i32],
-    row: &[u32],
-    before: usize,
-    after: usize,
-) -> usize
-    requires readable { Readable sizes.now margins.now cells.now }
-    requires row_value { fits sizes.now row.now ≡ true }
-    requires reached { Reached sizes.now before after }
-    ensures { let ns = sizes.now in
-        result ≡ after + apart_at r (rects_from ns (widened ns margins.now cells.now) row.now before after) }
+fn apart_from(r: Rect, drawing: &Drawing, row: &[u32], before: usize, after: usize) -> usize
+    requires row_value { fits drawing.now.sizes.now row.now ≡ true }
+    requires reached { Reached drawing.now.sizes.now before after }
+    ensures { let ns = drawing.now.sizes.now in
+        result ≡ after + apart_at r (rects_from ns (widened ns drawing.now.margins.now drawing.now.cells.now) row.now before after) }
 {
+    let sizes = drawing.sizes;
     let mut start = before;
-    let mut j = after;
-    while j < sizes.len() {
-        let size = sizes[j] as usize;
-        let other = grown_in(cells, start, size, row[j] as usize, margins[j]);
-        let Meeting::Common(_, _) = meet(r, other) else {
+    for j in after..sizes.len() {
+        let Some(_) = meet(r, drawing.rect(row, start, j)) else {
             return j;
         };
-        start += size;
-        j += 1;
+        start += sizes[j] as usize;
     }
-    j
+    sizes.len()
 }

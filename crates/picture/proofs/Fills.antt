@@ -10,12 +10,11 @@ use lib.IntN.{ℤ, pos, negsuc}
 use borrow.Author.Tests.{ne_eqb}
 use lib.ListN.{length, get_or, drop, length-append, drop_of_length-le}
 use lib.Seq.{drop-cons}
-use Rattle.lists.specs.inner.Stores.{Put}
-use Rattle.lists.proofs.Stores.{Left, left-all, left-put, left-none}
 use Rattle.decimal.specs.Numerals.{numeral}
 use Rattle.decimal.proofs.Numerals.{length-decimal, size-most}
-use Rattle.printing.specs.inner.Parts.{FitsAt}
-use Rattle.printing.proofs.Puts.{room-left}
+use Rattle.pens.specs.declared.Pen.{Pen}
+use Rattle.pens.specs.Pens.{RoomFor, wrote}
+use Rattle.pens.proofs.Pens.{Due, due-all, due-room, due-then, due-none}
 use Rattle.picture.specs.Templates.{piece, later, fill}
 
 as-it-is : (b : ℕ) (zs : List ℤ) → (b ≡ 64 → ⊥) → piece b zs ≡ b ∷ []
@@ -54,37 +53,29 @@ module _ (b : ℕ) (zs : List ℤ) (j : ℕ) where
   pub other-later : (b ≡ 64 → ⊥) → drop j zs ≡ later b (drop j zs)
   other-later h = as-they-are b (drop j zs) h
 
-  -- and there is room for it
-  module _ (buf : List ℕ) (at : ℕ) (r : FitsAt buf at (piece b (drop j zs))) where
-    pub hole-room : b ≡ 64 → j < length zs → (z : ℤ) → z ≡ get_or zs j (pos 0) → FitsAt buf at (numeral z)
-    hole-room e h z f = rw (hole-piece e h z f) at r
-
-    pub byte-room : piece b (drop j zs) ≡ b ∷ [] → at + 1 ≤ length buf
-    byte-room e = omega (arith, r.fits, ap length e)
-
--- ---- the loop: what is put, and the bytes from i on with the numbers from j on, give the whole text
-module _ (text : List ℕ) (zs : List ℤ) (first : List ℕ) (from : ℕ) where
-  pub record Filling (buf : List ℕ) (at i j : ℕ) : Type 0 where
+-- ---- the loop: what is written, and the bytes from i on with the numbers from j on, give the whole text
+module _ (text : List ℕ) (zs : List ℤ) (first : Pen) where
+  pub record Filling (pen : Pen) (i j : ℕ) : Type 0 where
     pub inside : j ≤ length zs
-    pub left : Left first from (fill text zs) buf at (fill (drop i text) (drop j zs))
+    pub left : Due first (fill text zs) pen (fill (drop i text) (drop j zs))
 
-  pub none_filled : Filling first from 0 0
-  none_filled = record { inside = omega arith; left = left-all first from (fill text zs) }
+  pub none_filled : RoomFor first (fill text zs) → Filling first 0 0
+  none_filled h = record { inside = omega arith; left = due-all first (fill text zs) h }
 
-  module _ (buf : List ℕ) (at i j : ℕ) (g : Filling buf at i j) where
-    pub all-filled : length text ≤ i → Put first from (fill text zs) buf at
-    all-filled h = left-none _ _ _ _ _ (rw (drop_of_length-le text {i = i} h) at g.left)
+  module _ (pen : Pen) (i j : ℕ) (g : Filling pen i j) where
+    pub all-filled : length text ≤ i → pen ≡ wrote first (fill text zs)
+    all-filled h = due-none _ _ _ (rw (drop_of_length-le text {i = i} h) at g.left)
 
     module _ (h : i < length text) (b : ℕ) (e : b ≡ get_or text i 0) where
-      split : Left first from (fill text zs) buf at (piece b (drop j zs) ++ fill (drop (suc i) text) (later b (drop j zs)))
+      split : Due first (fill text zs) pen (piece b (drop j zs) ++ fill (drop (suc i) text) (later b (drop j zs)))
       split = rw (drop-cons text i 0 h, ← e) at g.left
 
-      pub next-piece-room : FitsAt first from (fill text zs) → FitsAt buf at (piece b (drop j zs))
-      next-piece-room r = room-left _ _ _ _ _ (piece b (drop j zs)) _ r split
+      pub next-piece-room : RoomFor pen (piece b (drop j zs))
+      next-piece-room = due-room _ _ _ (piece b (drop j zs)) _ split
 
-      pub next-filled : (last : List ℕ) (v n : ℕ) → Put buf at (piece b (drop j zs)) last v → n ≤ length zs → drop n zs ≡ later b (drop j zs) → Filling last v (i + 1) n
-      next-filled last v n p m q =
-          rw add-one (record { inside = m; left = rw q (left-put _ _ _ _ _ (piece b (drop j zs)) _ _ _ p split) })
+      pub next-filled : (q : Pen) (n : ℕ) → q ≡ wrote pen (piece b (drop j zs)) → n ≤ length zs → drop n zs ≡ later b (drop j zs) → Filling q (i + 1) n
+      next-filled q n w m d =
+          rw add-one (record { inside = m; left = rw d (due-then _ _ _ (piece b (drop j zs)) _ q split w) })
 
 -- ---- how long it may be: no number has more than 21 bytes
 numeral-few : (z : ℤ) → length (numeral z) ≤ 21
@@ -104,11 +95,3 @@ piece-few b (z ∷ zs) = go (eqb b 64)
 pub fill-few : (t : List ℕ) (zs : List ℤ) → length (fill t zs) ≤ length t + 21 * length zs
 fill-few [] zs = omega arith
 fill-few (b ∷ t) zs = omega (arith, length-append (piece b zs) (fill t (later b zs)), piece-few b zs, fill-few t (later b zs))
-
--- ---- texts and numbers by other names
-module _ (buf : List ℕ) (at : ℕ) (t : List ℕ) (zs : List ℤ) (u : List ℕ) (ys : List ℤ) (e : u ≡ t) (f : ys ≡ zs) where
-  pub same-room : FitsAt buf at (fill t zs) → FitsAt buf at (fill u ys)
-  same-room h = rw (e, f) h
-
-  pub same-put : (last : List ℕ) (r : ℕ) → Put buf at (fill u ys) last r → Put buf at (fill t zs) last r
-  same-put last r p = rw (← e, ← f) p

@@ -5,7 +5,7 @@ use mathlib.Core.Option.{none}
 use Prim.Native.Nat.{ℕ, ◌*◌, ◌≤◌}
 use native.Mathlib.Omega.{arith}
 use lib.IntN.{ℤ}
-use lib.ListN.{length, take}
+use lib.ListN.{length}
 use Rattle.lists.specs.Lists.{sum}
 use Rattle.lists.specs.inner.Stores.{Put}
 use Rattle.totals.specs.declared.Total.{Total}
@@ -19,14 +19,14 @@ use Rattle.join.specs.Table.{plan_table}
 use Rattle.rows.specs.Tables.{rows_in}
 use Rattle.rows.specs.inner.TableRows.{TableRows}
 use Rattle.rows.proofs.TableRows.{table-rows}
-use Rattle.paging.specs.declared.Run.{Run}
-use Rattle.paging.specs.declared.Run.TheVariants.{Refused, Done}
+use Rattle.paging.specs.Answers.{Run}
+use Rattle.std.specs.Prelude.{Err}
+use Rattle.paging.specs.Answers.{ran as told_run}
 use Rattle.paging.specs.Calls.{run_cause, run_call, run_table}
 use Rattle.printing.specs.inner.Parts.{FitsAt}
 use Rattle.reporting.specs.Report.{run_table_cells, run_work_cells, empty_table}
-use Rattle.reporting.specs.inner.Parts.{plan_cells}
 use Rattle.reporting.proofs.Runs.{refusal}
-use Rattle.outcomes.specs.Outcomes.{Told, done, refused}
+use Rattle.outcomes.specs.Outcomes.{Told, done, refused, done_reply}
 use Rattle.outcomes.specs.inner.Rooms.{Room, room_for_all}
 use Rattle.outcomes.proofs.Outcomes.{told_same, told-done}
 use Rattle.listing.specs.inner.Parts.{Ran}
@@ -46,6 +46,10 @@ pub ran : (s : Shape) (cells : List ℤ) (order lent : List ℕ) (run : Run) (ta
 ran s cells order lent run table sound o long e f =
     record { sound = sound; lent = lent; long = long; answer = rw o at e; filled = rw o at f }
 
+-- where there is room for bytes, there is for the same by another name
+pub room-same : (buf : List ℕ) (at : ℕ) (xs ys : List ℕ) → FitsAt buf at xs → xs ≡ ys → FitsAt buf at ys
+room-same buf at xs ys h e = rw e at h
+
 -- the picture of a plan, with its frame and its grown cells by other names
 pub over-is : (s : Shape) (cells run : List ℤ) (table : List ℕ) (n : ℕ) (g : Rect) (f : Frame) → g ≡ ground_of run → f ≡ frame_of g → n ≡ length (rows_in s.k n table)
     → picture_of (frame_of (ground_of run)) s.margins (layers_of (sizes_of s) cells) (layers_of (sizes_of s) run) (rows_in s.k n table)
@@ -63,10 +67,6 @@ over-is s cells run table n g f e₁ e₂ h =
         fill head_text (seen w)
         ++ (layer_parts w s.margins 0 (layers_of (sizes_of s) cells)
         ++ (fill rows_text (moved w) ++ (row_parts w.unit (layers_of (sizes_of s) run) (rows_in s.k n table) ++ fill tail_text (scale w m))))
-
--- the plan's cells, n rectangles of four
-pub lent-picture : (s : Shape) (lent : List ℤ) (n : ℕ) → n ≡ sum s.sizes → plan_picture s (plan_cells s lent) ≡ plan_picture s (take (4 * n) lent)
-lent-picture s lent n e = rw e
 
 module _ (s : Shape) (cells : List ℤ) (h : Sound s cells) where
   -- it has no more rectangles than the largest plan
@@ -87,13 +87,13 @@ module _ (s : Shape) (cells : List ℤ) (h : Sound s cells) where
 
 module _ (s : Shape) (cells : List ℤ) (run : Run) (table : List ℕ) (h : Ran none s cells run table) where
   -- what is said where it refuses
-  pub picture-refused : (c : ℕ) → run ≡ Refused c → plan_picture s cells ≡ refused c
+  pub picture-refused : (c : ℕ) → run ≡ Err c → plan_picture s cells ≡ refused c
   unfolding plan_picture run_call
   picture-refused c e =
       refusal _ _ _ _ (done (picture s cells)) refused (run_cause none s cells (sweep_order (grown s cells)) empty_table run_work_cells) c
       (rw (same-cause none s cells h.lent h.long) at (sym e ∙ h.answer))
 
-  module _ (rows probes : ℕ) (area total : Total) (e : run ≡ Done rows probes area total) where
+  module _ (rows probes : ℕ) (area total : Total) (e : run ≡ told_run rows probes area total) where
     fin : Finished none s cells rows probes total table
     fin = finished none s cells h.sound h.lent h.long run table h.answer h.filled rows probes area total e
 
@@ -128,6 +128,6 @@ module _ (s : Shape) (cells : List ℤ) (run : Run) (table : List ℕ) (h : Ran 
     pub picture-room : (out err : List ℕ) → Room out err → FitsAt out 0 drawn
     picture-room out err r = record { fits = omega (arith, drawn-few, r.answer) }
 
-    pub picture-told : (out err after : List ℕ) (n : ℕ) → Room out err → Put out 0 drawn after n → Told (plan_picture s cells) out err after err (record { status = 0; out = n; err = 0 })
+    pub picture-told : (out err after : List ℕ) (n : ℕ) → Room out err → Put out 0 drawn after n → Told (plan_picture s cells) out err after err (done_reply n)
     picture-told out err after n r p =
         told_same (done drawn) out err after err _ (plan_picture s cells) (told-done out err drawn after n (omega (arith, drawn-few, r.answer)) p) picture-is

@@ -1,56 +1,47 @@
-// Texts with holes, put into a buffer with numbers in their holes.
-ghost use Rattle.std.specs.Prelude.{◌≡◌, [], ◌∷◌, ◌+◌, ◌≤◌, nat_abs, length, drop};
+// Texts with holes, written with numbers in their holes.
+ghost use Rattle.std.specs.Prelude.{◌≡◌, ◌≤◌, nat_abs, length, drop};
 ghost use Rattle.decimal.specs.Numerals.{numeral};
-ghost use Rattle.lists.specs.inner.Stores.{Put};
-ghost use Rattle.printing.specs.inner.Parts.{FitsAt};
+ghost use Rattle.pens.specs.Pens.{RoomFor, wrote};
 ghost use Rattle.picture.specs.Templates.{piece, later, fill};
 
-use speller::put_decimal;
+use pens::Pen;
+use speller::put_natural;
 
 // A number without its sign.
 fn size_of(z: i64) -> u64
     ensures { result ≡ nat_abs z }
 {
-    if z < 0 {
-        return (0 - (z + 1)) as u64 + 1;
-    }
-    z as u64
+    z.unsigned_abs()
 }
 
-// A number; the place behind it.
-fn put_number(buf: &mut [u8], at: usize, z: i64) -> usize
-    requires { FitsAt buf.old at (numeral z) }
-    ensures { Put buf.old at (numeral z) buf.new result }
+// A number.
+fn put_number(pen: &mut Pen, z: i64)
+    requires { RoomFor pen.old (numeral z) }
+    ensures { pen.new ≡ wrote pen.old (numeral z) }
 {
     let n = size_of(z);
     if z < 0 {
-        buf[at] = b'-';
-        return put_decimal(buf, at + 1, n);
+        pen.put_byte(b'-');
+        put_natural(pen, n);
+        return;
     }
-    put_decimal(buf, at, n)
+    put_natural(pen, n);
 }
 
-// A byte; the place behind it.
-fn put_byte(buf: &mut [u8], at: usize, b: u8) -> usize
-    requires { at + 1 ≤ length buf.old }
-    ensures { Put buf.old at (b ∷ []) buf.new result }
-{
-    buf[at] = b;
-    at + 1
-}
-
-// What a byte of a text becomes, where the numbers from j on are left; the place behind it.
-fn put_piece(buf: &mut [u8], at: usize, b: u8, numbers: &[i64], j: usize) -> usize
-    requires { (j ≤ length numbers.now) × FitsAt buf.old at (piece b (drop j numbers.now)) }
-    ensures { Put buf.old at (piece b (drop j numbers.now)) buf.new result }
+// What a byte of a text becomes, where the numbers from j on are left.
+fn put_piece(pen: &mut Pen, b: u8, numbers: &[i64], j: usize)
+    requires { (j ≤ length numbers.now) × RoomFor pen.old (piece b (drop j numbers.now)) }
+    ensures { pen.new ≡ wrote pen.old (piece b (drop j numbers.now)) }
 {
     if b != b'@' {
-        return put_byte(buf, at, b);
+        pen.put_byte(b);
+        return;
     }
     if numbers.len() <= j {
-        return put_byte(buf, at, b);
+        pen.put_byte(b);
+        return;
     }
-    put_number(buf, at, numbers[j])
+    put_number(pen, numbers[j]);
 }
 
 // Which number is next behind a byte.
@@ -66,19 +57,14 @@ fn next_number(b: u8, numbers: &[i64], j: usize) -> usize
     j
 }
 
-// A text with numbers in its holes; the place behind it.
-pub fn put_filled(buf: &mut [u8], from: usize, text: &[u8], numbers: &[i64]) -> usize
-    requires { FitsAt buf.old from (fill text.now numbers.now) }
-    ensures { Put buf.old from (fill text.now numbers.now) buf.new result }
+// A text with numbers in its holes.
+pub fn put_filled(pen: &mut Pen, text: &[u8], numbers: &[i64])
+    requires { RoomFor pen.old (fill text.now numbers.now) }
+    ensures { pen.new ≡ wrote pen.old (fill text.now numbers.now) }
 {
-    let mut at = from;
-    let mut i: usize = 0;
     let mut j: usize = 0;
-    while i < text.len() {
-        let b = text[i];
-        at = put_piece(buf, at, b, numbers, j);
-        j = next_number(b, numbers, j);
-        i += 1;
+    for b in text {
+        put_piece(pen, *b, numbers, j);
+        j = next_number(*b, numbers, j);
     }
-    at
 }

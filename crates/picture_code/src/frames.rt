@@ -6,7 +6,7 @@ ghost use Rattle.picture.specs.Frames.{around, ground_of, frame_of};
 ghost use Rattle.picture.specs.inner.Parts.{Small};
 
 use geometry::Rect;
-use geometry_code::{max_of, min_of, span};
+use geometry_code::span;
 use picture::Frame;
 use plan_code::rect_at;
 
@@ -15,10 +15,10 @@ fn around_of(a: Rect, b: Rect) -> Rect
     ensures { result ≡ around a b }
 {
     Rect {
-        left: min_of(a.left, b.left),
-        bottom: min_of(a.bottom, b.bottom),
-        right: max_of(a.right, b.right),
-        top: max_of(a.top, b.top),
+        left: a.left.min(b.left),
+        bottom: a.bottom.min(b.bottom),
+        right: a.right.max(b.right),
+        top: a.top.max(b.top),
     }
 }
 
@@ -44,10 +44,8 @@ pub fn ground_of(cells: &[i32]) -> Rect
     }
     let n = cells.len() / 4;
     let mut ground = rect_at(cells, 0);
-    let mut i: usize = 0;
-    while i < n {
+    for i in 0..n {
         ground = around_of(ground, rect_at(cells, i));
-        i += 1;
     }
     ground
 }

@@ -11,20 +11,14 @@ use picture::Frame;
 fn longer_of(a: u64, b: u64) -> u64
     ensures { result ≡ longer a b }
 {
-    if a <= b {
-        return b;
-    }
-    a
+    a.max(b)
 }
 
 // The width of a line of n tenths of a millimetre.
 fn width_of(n: u64) -> u64
     ensures { (result ≡ width_of n) × (result ≤ 327670) }
 {
-    if n <= 327670 {
-        return n;
-    }
-    327670
+    n.min(327670)
 }
 
 // The part of the ground that is seen, and how wide lines are.

@@ -20,7 +20,7 @@ use Rattle.plan.specs.Causes.{unless, ◌or_else◌, Check, fails, passes, Passe
 use Rattle.plan.specs.Plan.{rect_at, count, fits_at, all_fit, all_ranged, plan_cause}
 use Rattle.plan.specs.Theorems.{Bounded, AllIn, PlanChecks, OldCells, Plans}
 use Rattle.plan.proofs.Plan.{front-sum, checked}
-use Rattle.plan.proofs.Causes.{check-last, check-then, check-held, check-past}
+use Rattle.plan.proofs.Causes.{number-one, number-above, check-last, check-then, check-held, check-past}
 use Rattle.plan.proofs.Growing.{framed, grows}
 
 -- ---- the cells of a rectangle
@@ -119,6 +119,10 @@ old-in cells o = (λ h i k. sym (old-at cells o i) ∙ in-range _ (h i k), λ h 
 
 pub plans : Plans
 plans = record {
+  numbered = number-one;
+  never = number-above;
+  figures = refl;
+  tells = λ n c. (refl, refl, refl, refl);
   fields = fields;
   sizes = λ s j h. get_or-take s.k s.sizes j 0 h;
   causes = plan-checks;

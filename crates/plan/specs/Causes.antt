@@ -1,5 +1,44 @@
--- Causes by their numbers (01, "Causes and their numbers"): 0 stands for none.
-use Rattle.std.specs.Prelude.{Bool, true, false, ◌≡◌, ℕ, zero, suc}
+-- Causes and their numbers (01, "Causes and their numbers"): 0 stands for none.
+use Rattle.std.specs.Prelude.{Bool, true, false, ◌≡◌, ℕ, zero, suc, Result, Ok, Err}
+use Rattle.plan.specs.declared.cause.Cause.{Cause}
+use Rattle.plan.specs.declared.cause.Cause.TheVariants as cause
+
+-- the number of each
+abbrev pub number_of : Cause → ℕ
+number_of cause.WrongLayerCount = 1
+number_of cause.WrongSize = 2
+number_of cause.WrongCellCount = 3
+number_of cause.WrongRectangle = 4
+number_of cause.WrongOrder = 5
+number_of cause.WrongTicket = 6
+number_of cause.SmallTable = 7
+number_of cause.WrongOrderLength = 8
+number_of cause.MalformedText = 9
+number_of cause.WrongPlanText = 10
+number_of cause.FewCells = 11
+number_of cause.SmallTextBuffer = 12
+number_of cause.LongInput = 13
+number_of cause.WrongBox = 14
+number_of cause.FewLayers = 15
+number_of cause.WrongSegment = 16
+number_of cause.WrongMargin = 17
+number_of cause.WrongCounter = 18
+number_of cause.SmallWork = 19
+number_of cause.WrongRecord = 20
+number_of cause.WrongStops = 21
+number_of cause.WrongRound = 22
+number_of cause.WrongPlaces = 23
+number_of cause.WrongWindow = 24
+
+-- the number of a refusal, 0 where there is none
+abbrev pub refusal : {A : Type 0} → Result A Cause → ℕ
+refusal (Ok a) = 0
+refusal (Err c) = number_of c
+
+-- an answer with its refusal as that number
+abbrev pub by_number : {A : Type 0} → Result A Cause → Result A ℕ
+by_number (Ok a) = Ok a
+by_number (Err c) = Err (number_of c)
 
 infixl 20 ◌or_else◌
 -- the cause, unless its check is passed

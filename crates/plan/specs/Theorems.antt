@@ -1,11 +1,13 @@
 -- Theorem: what is promised of the rectangles and of the causes of every plan. Proved in proofs/Theorems.antt.
-use Rattle.std.specs.Prelude.{◌≡◌, List, ◌∷◌, ◌++◌, ◌↔◌, ℕ, ◌*◌, ◌≤◌, ◌<◌, true, ℤ, pos, length, get_or}
+use Rattle.std.specs.Prelude.{◌≡◌, List, [], ◌∷◌, ◌++◌, map, Ok, Err, ◌↔◌, ℕ, ◌*◌, ◌≤◌, ◌<◌, true, ℤ, pos, length, get_or}
 use Rattle.lists.specs.Lists.{sum}
 use Rattle.geometry.specs.declared.Rect.{Rect}
 use Rattle.geometry.specs.Rectangles.{between, held, grown_by}
 use Rattle.geometry.specs.Theorems.{Ranged}
 use Rattle.plan.specs.declared.Shape.{Shape}
-use Rattle.plan.specs.Causes.{Check, Passed}
+use Rattle.plan.specs.declared.cause.Cause.{Cause}
+use Rattle.plan.specs.declared.cause.Cause.TheVariants as cause
+use Rattle.plan.specs.Causes.{number_of, refusal, by_number, Check, Passed}
 use Rattle.plan.specs.Plan.{rect_at, count, layers_of, sizes_of, grown, layers, plan_cause, Sound}
 use Rattle.plan.specs.Spots.{Spot, layer_at, Has, rect_of}
 use Rattle.plan.specs.Frames.{Framed}
@@ -41,6 +43,17 @@ pub record Grows (s : Shape) (cells : List ℤ) : Type 0 where
   pub none : Sound s cells → ((j : ℕ) → get_or s.margins j 0 ≡ 0) → grown s cells ≡ cells
 
 pub record Plans : Type 0 where
+  -- a cause's number says which it is, and is never that of none
+  pub numbered : (c d : Cause) → number_of c ≡ number_of d → c ≡ d
+  pub never : (c : Cause) → number_of c ≡ 0 → ⊥
+  -- the numbers of the causes, in figures
+  pub figures : map number_of (cause.WrongLayerCount ∷ cause.WrongSize ∷ cause.WrongCellCount ∷ cause.WrongRectangle ∷ cause.WrongOrder ∷ cause.WrongTicket ∷
+      cause.SmallTable ∷ cause.WrongOrderLength ∷ cause.MalformedText ∷ cause.WrongPlanText ∷ cause.FewCells ∷ cause.SmallTextBuffer ∷
+      cause.LongInput ∷ cause.WrongBox ∷ cause.FewLayers ∷ cause.WrongSegment ∷ cause.WrongMargin ∷ cause.WrongCounter ∷
+      cause.SmallWork ∷ cause.WrongRecord ∷ cause.WrongStops ∷ cause.WrongRound ∷ cause.WrongPlaces ∷ cause.WrongWindow ∷ [])
+      ≡ 1 ∷ 2 ∷ 3 ∷ 4 ∷ 5 ∷ 6 ∷ 7 ∷ 8 ∷ 9 ∷ 10 ∷ 11 ∷ 12 ∷ 13 ∷ 14 ∷ 15 ∷ 16 ∷ 17 ∷ 18 ∷ 19 ∷ 20 ∷ 21 ∷ 22 ∷ 23 ∷ 24 ∷ []
+  -- an answer tells 0 and itself, a refusal the number of its cause
+  pub tells : (n : ℕ) (c : Cause) → (refusal (Ok n) ≡ 0) × (refusal {A = ℕ} (Err c) ≡ number_of c) × (by_number (Ok n) ≡ Ok n) × (by_number {A = ℕ} (Err c) ≡ Err (number_of c))
   -- "four for each rectangle: left, bottom, right, top": those of the rectangle with number p stand behind 4p cells
   pub fields : (p : ℕ) (front : List ℤ) (r : Rect) (rest : List ℤ) → length front ≡ 4 * p
       → rect_at (front ++ r.left ∷ r.bottom ∷ r.right ∷ r.top ∷ rest) p ≡ r

@@ -1,5 +1,10 @@
-// A plan: its shape and the numbers that bound it. What a plan, its layers and its causes are is defined in specs/; the code is in the crate `plan_code`.
+// A plan: its shape, the numbers that bound it, and why calls refuse. What a plan, its layers and its causes are is defined in specs/; the code is in the
+// crate `plan_code`.
 #![tactic(auto)]
+
+mod cause;
+
+pub use cause::Cause;
 
 // The most layers that a plan has.
 pub const MOST_LAYERS: usize = 6;

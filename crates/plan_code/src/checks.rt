@@ -1,58 +1,56 @@
 // The checks of a plan: 1, 2, 17, 3 and 4.
 ghost use Rattle.std.specs.Prelude.{◌≡◌, ◌≤◌, length};
 ghost use Rattle.lists.specs.Lists.{sum};
+ghost use Rattle.plan.specs.Causes.{refusal};
 ghost use Rattle.plan.specs.Plan.{count, fits_at, all_fit, all_ranged, shape_cause, plan_cause};
 ghost use Rattle.plan.specs.Limits.{most_layers};
 
 use crate::rect_at;
 use geometry_code::in_range;
-use plan::{MOST_LAYERS, MOST_MARGIN, MOST_SIZE, Shape};
+use plan::{Cause, MOST_LAYERS, MOST_MARGIN, MOST_SIZE, Shape};
 
-// The first of the causes 1, 2, 17, 3 and 4 that applies, or 0.
-pub fn plan_cause(shape: Shape, cells: &[i32]) -> u32
-    ensures { result ≡ plan_cause shape cells.now }
+// The first of the causes 1, 2, 17, 3 and 4 that applies.
+pub fn check_plan(shape: Shape, cells: &[i32]) -> Result<(), Cause>
+    ensures { refusal result ≡ plan_cause shape cells.now }
 {
-    let cause = shape_cause(shape);
-    if cause != 0 {
-        return cause;
-    }
+    check_shape(shape)?;
     if cells.len() != 4 * count_of(shape) {
-        return 3;
+        return Err(Cause::WrongCellCount);
     }
-    if all_ranged(cells) { 0 } else { 4 }
+    if !all_ranged(cells) {
+        return Err(Cause::WrongRectangle);
+    }
+    Ok(())
 }
 
-// The first of the causes 1, 2 and 17 that applies, or 0.
-fn shape_cause(shape: Shape) -> u32
-    ensures { result ≡ shape_cause shape }
+// The first of the causes 1, 2 and 17 that applies.
+fn check_shape(shape: Shape) -> Result<(), Cause>
+    ensures { refusal result ≡ shape_cause shape }
 {
     let k = shape.k as usize;
     if k < 2 {
-        return 1;
+        return Err(Cause::WrongLayerCount);
     }
     if k > MOST_LAYERS {
-        return 1;
+        return Err(Cause::WrongLayerCount);
     }
     if !all_fit(&shape.sizes, MOST_SIZE, k) {
-        return 2;
+        return Err(Cause::WrongSize);
     }
-    if all_fit(&shape.margins, MOST_MARGIN, k) {
-        0
-    } else {
-        17
+    if !all_fit(&shape.margins, MOST_MARGIN, k) {
+        return Err(Cause::WrongMargin);
     }
+    Ok(())
 }
 
 // Each number is at most `most`, and 0 past k.
 fn all_fit(numbers: &[u32], most: u32, k: usize) -> bool
     ensures { result ≡ all_fit most k 0 numbers.now }
 {
-    let mut j = 0;
-    while j < numbers.len() {
-        if !fits_at(numbers[j], most, j, k) {
+    for (j, &number) in numbers.iter().enumerate() {
+        if !fits_at(number, most, j, k) {
             return false;
         }
-        j += 1;
     }
     true
 }
@@ -67,13 +65,7 @@ pub fn is_drawn(shape: Shape) -> bool
 fn fits_at(n: u32, most: u32, j: usize, k: usize) -> bool
     ensures { result ≡ fits_at most k j n }
 {
-    if n > most {
-        return false;
-    }
-    if j < k {
-        return true;
-    }
-    n == 0
+    n <= most && (j < k || n == 0)
 }
 
 // How many rectangles a plan of this shape has: the sum of its six sizes.
@@ -88,13 +80,7 @@ pub fn sum_of(sizes: &[u32]) -> usize
     requires { length sizes.now ≤ most_layers }
     ensures { result ≡ sum sizes.now }
 {
-    let mut n: usize = 0;
-    let mut j = 0;
-    while j < sizes.len() {
-        n += sizes[j] as usize;
-        j += 1;
-    }
-    n
+    sizes.iter().map(|&size| size as usize).sum()
 }
 
 // Each rectangle in the cells is in range.
@@ -102,12 +88,10 @@ fn all_ranged(cells: &[i32]) -> bool
     ensures { result ≡ all_ranged (count cells.now) cells.now }
 {
     let n = cells.len() / 4;
-    let mut i = 0;
-    while i < n {
+    for i in 0..n {
         if !in_range(rect_at(cells, i)) {
             return false;
         }
-        i += 1;
     }
     true
 }

@@ -11,7 +11,7 @@ ghost use Rattle.std.specs.Prelude.{◌≡◌, ◌+◌, ◌*◌, ◌≤◌, leng
 ghost use Rattle.lists.specs.inner.Stores.{Put};
 ghost use Rattle.plan.specs.Plan.{rect_at, rect_cells};
 
-pub use checks::{count_of, is_drawn, plan_cause, sum_of};
+pub use checks::{check_plan, count_of, is_drawn, sum_of};
 use geometry::Rect;
 pub use margins::{grow_plan, grown_cells};
 

@@ -43,12 +43,10 @@ fn grow_layers<'a>(
 {
     let mut at: usize = 0;
     let mut start: usize = 0;
-    let mut j = 0;
-    while j < k {
+    for j in 0..k {
         let size = sizes[j] as usize;
         at = grow_layer(layer_cells(cells, start, size), size, margins[j], run, at);
         start += size;
-        j += 1;
     }
     at
 }
@@ -60,10 +58,8 @@ fn grow_layer(cells: &[i32], size: usize, margin: u32, run: &mut [i32], at: usiz
     ensures { Put run.old at (grown_from margin (rect_at cells.now) 0 size) run.new result }
 {
     let mut to = at;
-    let mut p: usize = 0;
-    while p < size {
+    for p in 0..size {
         to = put_rect(run, to, grow(rect_at(cells, p), margin));
-        p += 1;
     }
     to
 }

@@ -1,34 +1,32 @@
--- Laws of numbers that are put one behind the other, each behind its tab.
+-- Laws of numbers that are written one behind the other, each behind its tab.
+use mathlib.Core.Path.{◌≡◌}
 use mathlib.Core.List.{List, ◌∷◌}
 use Prim.Native.Nat.{ℕ, ◌+◌, ◌≤◌, ◌<◌}
 use native.Mathlib.Omega.{arith}
 use lib.ListN.{length, get_or, drop, drop_of_length-le}
 use Rattle.decimal.specs.Numerals.{decimal}
-use Rattle.lists.specs.inner.Stores.{Put}
-use Rattle.lists.proofs.Stores.{Left, left-all, left-put, left-none}
 use Rattle.decimal.proofs.Places.{at_byte}
-use Rattle.printing.specs.inner.Parts.{tabbed, FitsAt}
-use Rattle.printing.proofs.Puts.{room-left}
+use Rattle.pens.specs.declared.Pen.{Pen}
+use Rattle.pens.specs.Pens.{RoomFor, wrote}
+use Rattle.pens.proofs.Pens.{Due, due-room, due-then, due-none}
+use Rattle.printing.specs.inner.Parts.{tabbed}
 
-module _ (first : List ℕ) (from : ℕ) (ns : List ℕ) where
-  -- the first i are put; those from i on are left to be put at `at`
-  pub record Fields (buf : List ℕ) (at i : ℕ) : Type 0 where
+module _ (first : Pen) (ns : List ℕ) where
+  -- the first i are written; those from i on are left
+  pub record Fields (pen : Pen) (i : ℕ) : Type 0 where
     pub inside : i ≤ length ns
-    pub left : Left first from (tabbed ns) buf at (tabbed (drop i ns))
+    pub left : Due first (tabbed ns) pen (tabbed (drop i ns))
 
-  pub no_fields : Fields first from 0
-  no_fields = record { inside = omega arith; left = left-all _ _ _ }
-
-  module _ (buf : List ℕ) (at i : ℕ) (f : Fields buf at i) where
+  module _ (pen : Pen) (i : ℕ) (f : Fields pen i) where
     -- the next one, and those behind it
-    split : i < length ns → Left first from (tabbed ns) buf at (tabbed (get_or ns i 0 ∷ drop (i + 1) ns))
+    split : i < length ns → Due first (tabbed ns) pen (tabbed (get_or ns i 0 ∷ drop (i + 1) ns))
     split h = rw (at_byte ns i h) at f.left
 
-    pub next-field-room : i < length ns → FitsAt first from (tabbed ns) → FitsAt buf at (9 ∷ decimal (get_or ns i 0))
-    next-field-room h r = room-left _ _ _ _ _ (9 ∷ decimal (get_or ns i 0)) _ r (split h)
+    pub next-field-room : i < length ns → RoomFor pen (9 ∷ decimal (get_or ns i 0))
+    next-field-room h = due-room _ _ _ (9 ∷ decimal (get_or ns i 0)) _ (split h)
 
-    pub next_field : i < length ns → (last : List ℕ) (r : ℕ) → Put buf at (9 ∷ decimal (get_or ns i 0)) last r → Fields last r (i + 1)
-    next_field h last r p = record { inside = omega arith; left = left-put _ _ _ _ _ (9 ∷ decimal (get_or ns i 0)) _ _ _ p (split h) }
+    pub next_field : i < length ns → (q : Pen) → q ≡ wrote pen (9 ∷ decimal (get_or ns i 0)) → Fields q (i + 1)
+    next_field h q e = record { inside = omega arith; left = due-then _ _ _ (9 ∷ decimal (get_or ns i 0)) _ q (split h) e }
 
-    pub all-fields : length ns ≤ i → Put first from (tabbed ns) buf at
-    all-fields h = left-none _ _ _ _ _ (rw (drop_of_length-le ns h) at f.left)
+    pub all-fields : length ns ≤ i → pen ≡ wrote first (tabbed ns)
+    all-fields h = due-none _ _ _ (rw (drop_of_length-le ns h) at f.left)

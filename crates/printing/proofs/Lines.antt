@@ -50,8 +50,11 @@ metres-are t h e =
     let b : (t.metres * 100 + h) / 100 ≡ t.metres + h / 100 = omega arith in
     rw (a, b, decimals-same t.metres h) refl
 
-pub metres-of : (t : Total) (h : ℕ) → h ≡ hundredths t.rest → fields_end (square_metres (hundredths (value_of t)) ∷ []) ≡ (9 ∷ decimal (t.metres + h / 100) ++ 46 ∷ digits 2 h) ++ fields_end []
-metres-of t h e = ap (λ (l : List ℕ). 9 ∷ l ++ fields_end []) (metres-are t h e)
+pub metres-told : (t : Total) → square_metres (hundredths (value_of t)) ≡ decimal (t.metres + hundredths t.rest / 100) ++ 46 ∷ digits 2 (hundredths t.rest)
+metres-told t = metres-are t (hundredths t.rest) refl
+
+-- what a check needs of the lines to find how they are written
+pub ruleset told = (row-parts, metres-told)
 
 -- ---- lengths: no number has more than twenty digits
 few : (n : ℕ) → length (decimal n) ≤ 20

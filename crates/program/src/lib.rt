@@ -45,5 +45,5 @@ pub extern "C" fn overlay_command(
     let reply = command(arguments, text, second, table, work, out, err);
     *printed = reply.out;
     *told = reply.err;
-    reply.status
+    u32::from(reply.status)
 }

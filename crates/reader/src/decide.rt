@@ -2,15 +2,16 @@
 ghost use Rattle.std.specs.Prelude.{◌≡◌, ◌≤◌, length, drop};
 ghost use Rattle.line.specs.declared.Line.TheVariants.{Plan};
 ghost use Rattle.line.specs.Places.{Line-at};
-ghost use Rattle.text.specs.inner.Filling.{refused_by, Decided};
+ghost use Rattle.plan.specs.Causes.{refusal};
+ghost use Rattle.text.specs.inner.Filling.{Decided};
 ghost use Rattle.text.specs.inner.Counting.{none_yet, unformed, spoilt, up_to, layer_right, add_layer, add_rect, add_line, tally_from, Few, layers_right, tally_cause};
 
 use geometry::Rect;
 use geometry_code::in_range;
 use lexer::read_line;
-use line::{Found, Line};
-use plan::{MOST_LAYERS, MOST_MARGIN, MOST_SIZE, Shape};
-use text::{Decision, Reading, Tally};
+use line::Line;
+use plan::{Cause, MOST_LAYERS, MOST_MARGIN, MOST_SIZE, Shape};
+use text::{Decision, Tally};
 
 // The most layers of a plan, and the largest size and the largest margin of one.
 const DEEPEST: i32 = MOST_LAYERS as i32;
@@ -41,11 +42,7 @@ fn not_formed() -> Tally
     Tally {
         formed: false,
         good: false,
-        due: 0,
-        layers: 0,
-        rects: 0,
-        sizes: [0u32; MOST_LAYERS],
-        margins: [0u32; MOST_LAYERS],
+        ..none_yet()
     }
 }
 
@@ -62,26 +59,14 @@ fn spoil(t: Tally) -> Tally
 fn up_to(most: i32, n: i32) -> bool
     ensures { result ≡ up_to most n }
 {
-    if 0 <= n {
-        return n <= most;
-    }
-    false
+    (0..=most).contains(&n)
 }
 
 // Whether a LAYER line of this size and margin may come.
 fn layer_right(t: Tally, n: i32, margin: i32) -> bool
     ensures { result ≡ layer_right t n margin }
 {
-    if t.due != 0 {
-        return false;
-    }
-    if t.layers >= MOST_LAYERS {
-        return false;
-    }
-    if !up_to(LARGEST, n) {
-        return false;
-    }
-    up_to(WIDEST, margin)
+    t.due == 0 && t.layers < MOST_LAYERS && up_to(LARGEST, n) && up_to(WIDEST, margin)
 }
 
 // One layer more.
@@ -107,10 +92,7 @@ fn add_layer(t: Tally, n: i32, margin: i32) -> Tally
 fn add_rect(t: Tally, r: Rect) -> Tally
     ensures { result ≡ add_rect t r }
 {
-    if t.due == 0 {
-        return spoil(t);
-    }
-    if !in_range(r) {
+    if t.due == 0 || !in_range(r) {
         return spoil(t);
     }
     let mut u = t;
@@ -138,7 +120,7 @@ fn tally(s: &[u8], from: usize) -> Tally
     let mut at = from;
     let mut t = none_yet();
     while at < s.len() {
-        let Found::At(line, next) = read_line(s, at) else {
+        let Some((line, next)) = read_line(s, at) else {
             return not_formed();
         };
         t = add_line(t, line);
@@ -151,64 +133,34 @@ fn tally(s: &[u8], from: usize) -> Tally
 }
 
 // The cause 9 or 10, where the PLAN line says k.
-fn tally_cause(k: i32, t: Tally) -> u32
-    ensures { result ≡ tally_cause k t }
+fn check_tally(k: i32, t: Tally) -> Result<(), Cause>
+    ensures { refusal result ≡ tally_cause k t }
 {
     if !t.formed {
-        return 9;
+        return Err(Cause::MalformedText);
     }
-    if !t.good {
-        return 10;
+    if !t.good || t.due != 0 || !layers_right(k, t.layers) {
+        return Err(Cause::WrongPlanText);
     }
-    if t.due != 0 {
-        return 10;
-    }
-    if !layers_right(k, t.layers) {
-        return 10;
-    }
-    0
+    Ok(())
 }
 
 // Whether k is from 2 to 6, and n layers are as many.
 fn layers_right(k: i32, n: usize) -> bool
     ensures { result ≡ layers_right k n }
 {
-    if 2 <= k {
-        if k <= DEEPEST {
-            return (k as usize) == n;
-        }
-    }
-    false
-}
-
-// A refusal by its number.
-fn refuse(cause: u32) -> Decision
-    ensures { result ≡ refused_by cause }
-{
-    let shape = Shape {
-        k: 0,
-        sizes: [0u32; MOST_LAYERS],
-        margins: [0u32; MOST_LAYERS],
-    };
-    let reading = Reading {
-        number: cause,
-        shape,
-    };
-    Decision { reading, next: 0 }
+    (2..=DEEPEST).contains(&k) && k as usize == n
 }
 
 // Decides on a text whose PLAN line says k and ends at `next`, where `room` cells are lent.
-fn decide_on(s: &[u8], k: i32, next: usize, room: usize) -> Decision
+fn decide_on(s: &[u8], k: i32, next: usize, room: usize) -> Result<Decision, Cause>
     requires { Line-at s.now 0 (Plan k) next }
     ensures { Decided s.now room result }
 {
     let t = tally(s, next);
-    let cause = tally_cause(k, t);
-    if cause != 0 {
-        return refuse(cause);
-    }
+    check_tally(k, t)?;
     if room < 4 * t.rects {
-        return refuse(11);
+        return Err(Cause::FewCells);
     }
     let sizes = t.sizes;
     let margins = t.margins;
@@ -217,20 +169,19 @@ fn decide_on(s: &[u8], k: i32, next: usize, room: usize) -> Decision
         sizes,
         margins,
     };
-    let reading = Reading { number: 0, shape };
-    Decision { reading, next }
+    Ok(Decision { shape, next })
 }
 
 // Decides on a text, where `room` cells are lent.
-pub fn decide(s: &[u8], room: usize) -> Decision
+pub fn decide(s: &[u8], room: usize) -> Result<Decision, Cause>
     ensures { Decided s.now room result }
 {
-    let Found::At(line, next) = read_line(s, 0) else {
-        return refuse(9);
+    let Some((line, next)) = read_line(s, 0) else {
+        return Err(Cause::MalformedText);
     };
     match line {
         Line::Plan(k) => decide_on(s, k, next, room),
-        Line::Layer(_, _) => refuse(9),
-        Line::Rectangle(_) => refuse(9),
+        Line::Layer(_, _) => Err(Cause::MalformedText),
+        Line::Rectangle(_) => Err(Cause::MalformedText),
     }
 }

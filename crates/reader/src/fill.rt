@@ -6,7 +6,7 @@ ghost use Rattle.text.specs.Plans.{cells_in};
 ghost use Rattle.text.specs.inner.Filling.{rest_cells, LinesFit};
 
 use lexer::read_line;
-use line::{Found, Line};
+use line::Line;
 use plan_code::put_rect;
 
 // The cells that a line gives, from a place on; the place behind them.
@@ -29,7 +29,7 @@ pub fn fill(s: &[u8], from: usize, cells: &mut [i32]) -> usize
     let mut at = from;
     let mut i: usize = 0;
     while at < s.len() {
-        let Found::At(line, next) = read_line(s, at) else {
+        let Some((line, next)) = read_line(s, at) else {
             return i;
         };
         i = put_line(cells, i, line);

@@ -7,23 +7,20 @@ mod decide;
 mod fill;
 
 ghost use Rattle.std.specs.Prelude.{◌≡◌, length};
+ghost use Rattle.plan.specs.Causes.{refusal, by_number};
 ghost use Rattle.text.specs.Reader.{read_cause, read_answer, cells_after};
 
 use decide::decide;
 use fill::fill;
-use text::Reading;
+use plan::{Cause, Shape};
 
-// Reads a plan text into lent cells, or tells why not.
-pub fn read(text: &[u8], cells: &mut [i32]) -> Reading
-    ensures answer { result ≡ read_answer (length cells.old) text.now }
-    ensures number { result.number ≡ read_cause (length cells.old) text.now }
+// Reads a plan text into lent cells, and tells the plan's shape.
+pub fn read(text: &[u8], cells: &mut [i32]) -> Result<Shape, Cause>
+    ensures answer { by_number result ≡ read_answer (length cells.old) text.now }
+    ensures number { refusal result ≡ read_cause (length cells.old) text.now }
     ensures buffer { cells.new ≡ cells_after text.now cells.old }
 {
-    let d = decide(text, cells.len());
-    let r = d.reading;
-    if r.number != 0 {
-        return r;
-    }
+    let d = decide(text, cells.len())?;
     fill(text, d.next, cells);
-    r
+    Ok(d.shape)
 }

@@ -19,8 +19,9 @@ use Rattle.join.specs.Table.{table_of}
 use Rattle.ground.specs.Union.{grounds}
 use Rattle.ground.proofs.Theorems.{union-holds}
 use Rattle.paging.specs.Overlays.{overlay}
-use Rattle.paging.specs.declared.Run.{Run}
-use Rattle.paging.specs.declared.Run.TheVariants.{Refused, Done}
+use Rattle.paging.specs.Answers.{Run}
+use Rattle.std.specs.Prelude.{Ok, Err}
+use Rattle.paging.specs.Answers.{ran as finished}
 use Rattle.paging.specs.Calls.{run_cause, run_call, run_table, run_values}
 use Rattle.rows.specs.Tables.{rows_in}
 use Rattle.sweep.proofs.Theorems.{order-passes}
@@ -37,8 +38,8 @@ use Rattle.reporting.proofs.Reports.{same-cause, lines_fit}
 
 -- ---- the whole run's answers
 abbrev pub is-done : Run → Bool
-is-done (Refused cause) = false
-is-done (Done rows probes area ground) = true
+is-done (Err cause) = false
+is-done (Ok done) = true
 
 on_cause-id : (cause : ℕ) → on_cause cause 0 (λ n. n) ≡ cause
 on_cause-id zero = refl
@@ -47,14 +48,14 @@ on_cause-id (suc cause) = refl
 module _ (rows probes : ℕ) (area total : Total) where
   -- its answer for a cause
   abbrev pub answered : ℕ → Run
-  answered cause = on_cause cause (Done rows probes area total) (λ n. Refused n)
+  answered cause = on_cause cause (finished rows probes area total) Err
 
   -- a refusal has its cause's number
-  pub refusal : {A : Type 0} (printed : A) (line : ℕ → A) (cause c : ℕ) → Refused c ≡ answered cause → on_cause cause printed line ≡ line c
+  pub refusal : {A : Type 0} (printed : A) (line : ℕ → A) (cause c : ℕ) → Err c ≡ answered cause → on_cause cause printed line ≡ line c
   refusal printed line zero c e = clash refl (sym (ap is-done e))
   refusal printed line (suc cause) c e = ap line (sym (ap (λ (r : Run). (run_values r).number) e))
 
-  pub success : (cause r p : ℕ) (a t : Total) → Done r p a t ≡ answered cause → (cause ≡ 0) × (r ≡ rows) × (p ≡ probes) × (t ≡ total)
+  pub success : (cause r p : ℕ) (a t : Total) → finished r p a t ≡ answered cause → (cause ≡ 0) × (r ≡ rows) × (p ≡ probes) × (t ≡ total)
   success zero r p a t e =
       (refl, ap (λ (x : Run). (run_values x).rows) e, ap (λ (x : Run). (run_values x).probes) e, ap (λ (x : Run). (run_values x).ground) e)
   success (suc cause) r p a t e = clash (sym (ap is-done e)) refl
@@ -68,19 +69,19 @@ ran s cells order lent run table sound o long e f =
 
 module _ (s : Shape) (cells : List ℤ) (run : Run) (table : List ℕ) (h : RanInto s cells run table) where
   -- what is printed where it refuses
-  pub refused-cause : (c : ℕ) → run ≡ Refused c → plan_cause s cells ≡ c
+  pub refused-cause : (c : ℕ) → run ≡ Err c → plan_cause s cells ≡ c
   unfolding run_call plan_cause
   refused-cause c e =
       sym (on_cause-id _) ∙ refusal _ _ _ _ 0 (λ n. n) (run_cause none s cells (sweep_order (grown s cells)) empty_table run_work_cells) c
       (rw (same-cause s cells h.sound (sweep_order (grown s cells)) h.lent refl h.long) at (sym e ∙ h.answer))
 
-  pub refused-report : (c : ℕ) → run ≡ Refused c → plan_report s cells ≡ refused_line c
+  pub refused-report : (c : ℕ) → run ≡ Err c → plan_report s cells ≡ refused_line c
   unfolding run_call plan_report plan_cause
   refused-report c e =
       refusal _ _ _ _ (table_report s cells) refused_line (run_cause none s cells (sweep_order (grown s cells)) empty_table run_work_cells) c
       (rw (same-cause s cells h.sound (sweep_order (grown s cells)) h.lent refl h.long) at (sym e ∙ h.answer))
 
-  module _ (rows probes : ℕ) (area total : Total) (e : run ≡ Done rows probes area total) where
+  module _ (rows probes : ℕ) (area total : Total) (e : run ≡ finished rows probes area total) where
     -- what is printed where it succeeds, and the rows that the table has
     record Told : Type 0 where
       passes : plan_cause s cells ≡ 0
@@ -110,7 +111,7 @@ module _ (s : Shape) (cells : List ℤ) (run : Run) (table : List ℕ) (h : RanI
 
     -- its lines are put
     pub run-printed : (out last : List ℕ) (size : ℕ) → Put out 0 (row_lines (layers s cells) (rows_in s.k rows table) ++ total_line rows probes total) last size
-        → Printed (plan_cause s cells) (plan_report s cells) out last (record { cause = 0; size = size })
+        → Printed (plan_cause s cells) (plan_report s cells) out last (record { told = Ok tt; size = size })
     run-printed out last size p = record { number = sym told.passes; put = put_same out 0 _ _ last size p printed }
 
     pub total_kept : Kept total

@@ -11,8 +11,11 @@ use borrow.Author.Tests.{le-leb, lt-leb}
 use Rattle.lists.specs.Lists.{sum}
 use Rattle.lists.proofs.Tests.{total}
 use Rattle.plan.specs.Limits.{most_cells}
-use Rattle.text.specs.declared.Reading.{Reading}
-use Rattle.text.specs.Reader.{read_cause, text_shape, text_cells, read_answer, cells_after}
+use Rattle.std.specs.Prelude.{Result}
+use Rattle.plan.specs.declared.cause.Cause.{Cause}
+use Rattle.plan.specs.Causes.{refusal}
+use Rattle.text.specs.Reader.{ReadValues}
+use Rattle.text.specs.Reader.{read_cause, text_shape, text_cells, read_answer, read_values, cells_after}
 use Rattle.text.proofs.Theorems.{of-plan}
 use Rattle.lists.specs.inner.Stores.{Put}
 use Rattle.lists.proofs.Stores.{put-start, put-length}
@@ -63,7 +66,7 @@ never-longer t = go (total (length t) 65536)
     go (inr h) = rw (long-text t h) (omega (arith, refused-few 13))
 
 -- ---- what the reader answers where cells for any plan are lent
-module _ (t : List ℕ) (cells : List ℤ) (r : Reading) (short : length t ≤ 65536) (long : length cells ≡ most_cells) (e : r ≡ read_answer (length cells) t) (f : r.number ≡ read_cause (length cells) t) where
+module _ (t : List ℕ) (cells : List ℤ) (r : ReadValues) (short : length t ≤ 65536) (long : length cells ≡ most_cells) (e : r ≡ read_values (read_answer (length cells) t)) (f : r.number ≡ read_cause (length cells) t) where
   pub refused-reading : (r.number ≡ 0 → ⊥) → report_of t ≡ refused_line r.number
   refused-reading h = refused-text t short r.number (rw long at f) h
 
@@ -76,7 +79,7 @@ module _ (t : List ℕ) (cells : List ℤ) (r : Reading) (short : length t ≤ 6
 
     -- the shape and the cells of the text's plan
     pub shape-read : r.shape ≡ text_shape t
-    shape-read = ap (λ (x : Reading). x.shape) (rw long at e) ∙ rw accepted
+    shape-read = ap (λ (x : ReadValues). x.shape) (rw long at e) ∙ rw accepted
 
     cells-read : after ≡ text_cells t ++ drop (length (text_cells t)) cells
     cells-read = g ∙ rw (long, accepted)
@@ -103,8 +106,8 @@ module _ (t : List ℕ) (cells : List ℤ) (r : Reading) (short : length t ≤ 6
 pub printed-same : (n m : ℕ) (xs whole out last : List ℕ) (r : Printout) → Printed n xs out last r → m ≡ n → whole ≡ xs → Printed m whole out last r
 printed-same n m xs whole out last r p e f = rw (e, f) p
 
-pub printed-put : (n size : ℕ) (bytes out last : List ℕ) → Put out 0 bytes last size → Printed n bytes out last (record { cause = n; size = size })
-printed-put n size bytes out last p = record { number = refl; put = p }
+pub printed-put : (told : Result (Unit {0}) Cause) (size : ℕ) (bytes out last : List ℕ) → Put out 0 bytes last size → Printed (refusal told) bytes out last (record { told = told; size = size })
+printed-put told size bytes out last p = record { number = refl; put = p }
 
 -- r bytes stand at its start, said twice, so that the part that they are can be lent
 abbrev Inside : ℕ → List ℕ → Type 0

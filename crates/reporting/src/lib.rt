@@ -2,9 +2,11 @@
 // `reporting_code`.
 #![tactic(auto)]
 
-// The report that stands at the start of a buffer: the cause that refuses the text, or 0, and how many bytes it has.
+use plan::Cause;
+
+// The report that stands at the start of a buffer: whether it tells a refusal, and how many bytes it has.
 #[derive(Clone, Copy)]
 pub struct Printout {
-    pub cause: u32,
+    pub told: Result<(), Cause>,
     pub size: usize,
 }

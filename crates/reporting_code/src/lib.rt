@@ -2,6 +2,7 @@
 #![tactic(auto)]
 
 ghost use Rattle.std.specs.Prelude.{◌≡◌, ◌++◌, ◌≤◌, length, take};
+ghost use Rattle.plan.specs.Causes.{number_of, by_number};
 ghost use Rattle.plan.specs.Limits.{most_cells};
 ghost use Rattle.plan.specs.Plan.{count, grown, layers, Sound};
 ghost use Rattle.sweep.specs.Sweep.{sweep_order};
@@ -14,8 +15,8 @@ ghost use Rattle.printing.specs.inner.Parts.{FitsAt};
 ghost use Rattle.reporting.specs.Report.{run_table_cells, room_for_any, report_cause, report_of, out_after};
 ghost use Rattle.reporting.specs.inner.Parts.{plan_cells, Lent, RanInto, plan_cause, plan_report, Printed};
 
-use paging::Run;
-use plan::{MOST_CELLS, MOST_RECTS, Shape};
+use paging::Done;
+use plan::{Cause, MOST_CELLS, MOST_RECTS, Shape};
 use plan_code::{count_of, grown_cells};
 use printing_code::{put_refused, put_table};
 use reader::read;
@@ -24,7 +25,7 @@ use runner::run_all;
 use sweep_code::make_order;
 use totals::Total;
 
-// The longest input.
+// The longest input. `outcomes` has it for the commands; the report stands below them.
 const LONGEST_INPUT: usize = 65536;
 
 // The cells of the table that the whole run is made into, and of its work buffer: two for each of at most 6,144 rows.
@@ -47,19 +48,22 @@ pub fn report_on(text: &[u8], out: &mut [u8]) -> Printout
     ensures { Printed (report_cause text.now) (report_of text.now) out.old out.new result }
 {
     if LONGEST_INPUT < text.len() {
-        return refuse(out, 13);
+        return refuse(out, Cause::LongInput);
     }
     let mut cells = [0i32; MOST_CELLS];
     report_text(text, &mut cells, out)
 }
 
 // A refusal, where there is room for any report.
-fn refuse(out: &mut [u8], cause: u32) -> Printout
+fn refuse(out: &mut [u8], cause: Cause) -> Printout
     requires { room_for_any ≤ length out.old }
-    ensures { Printed cause (refused_line cause) out.old out.new result }
+    ensures { Printed (number_of cause) (refused_line (number_of cause)) out.old out.new result }
 {
     let size = put_refused(out, 0, cause);
-    Printout { cause, size }
+    Printout {
+        told: Err(cause),
+        size,
+    }
 }
 
 // The report on a text that is not too long, with the cells that it is read into.
@@ -67,11 +71,10 @@ fn report_text(text: &[u8], cells: &mut [i32], out: &mut [u8]) -> Printout
     requires { (length text.now ≤ 65536) × (length cells.old ≡ most_cells) × (room_for_any ≤ length out.old) }
     ensures { Printed (report_cause text.now) (report_of text.now) out.old out.new result }
 {
-    let reading = read(text, cells);
-    if reading.number != 0 {
-        return refuse(out, reading.number);
+    match read(text, cells) {
+        Ok(shape) => report_plan(shape, cells, out),
+        Err(cause) => refuse(out, cause),
     }
-    report_plan(reading.shape, cells, out)
 }
 
 // The report on a sound plan, whose cells stand first in the lent ones.
@@ -114,7 +117,7 @@ fn report_sound(
         × (room_for_any ≤ length out.old) }
     ensures { Printed (plan_cause shape cells.now) (plan_report shape cells.now) out.old out.new result }
 {
-    make_order(shape, cells, order);
+    let _ = make_order(shape, cells, order);
     report_ordered(shape, cells, order, table, out)
 }
 
@@ -137,15 +140,24 @@ fn report_ordered(
 }
 
 // The report on what the whole run answered, and the table that it left.
-fn report_run(run: Run, shape: Shape, cells: &[i32], table: &[u32], out: &mut [u8]) -> Printout
-    requires { RanInto shape cells.now run table.now × (room_for_any ≤ length out.old) }
+fn report_run(
+    run: Result<Done, Cause>,
+    shape: Shape,
+    cells: &[i32],
+    table: &[u32],
+    out: &mut [u8],
+) -> Printout
+    requires { RanInto shape cells.now (by_number run) table.now × (room_for_any ≤ length out.old) }
     ensures { Printed (plan_cause shape cells.now) (plan_report shape cells.now) out.old out.new result }
 {
     match run {
-        Run::Refused(cause) => refuse(out, cause),
-        Run::Done(rows, probes, _, ground) => {
+        Err(cause) => refuse(out, cause),
+        Ok(done) => {
+            let rows = done.rows;
+            let probes = done.probes;
+            let ground = done.ground;
             let size = put_grown(out, shape, cells, table, rows, probes, ground);
-            Printout { cause: 0, size }
+            Printout { told: Ok(()), size }
         }
     }
 }

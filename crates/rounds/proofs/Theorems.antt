@@ -21,8 +21,8 @@ use Rattle.lists.proofs.Tests.{clash}
 use Rattle.plan.specs.declared.Shape.{Shape}
 use Rattle.plan.specs.Plan.{sizes_of, Typed}
 use Rattle.plan.proofs.Theorems.{plans}
-use Rattle.search.specs.declared.Stop.TheVariants.{Ended, Full}
-use Rattle.paging.specs.declared.Page.{Page}
+use Rattle.search.specs.Stops.{Ended, Full}
+use Rattle.paging.specs.Answers.{PageValues}
 use Rattle.paging.specs.Cursors.{ended_cursor}
 use Rattle.paging.specs.Overlays.{Overlay, overlay}
 use Rattle.search.specs.Traversal.{Probe}
@@ -36,7 +36,7 @@ use Rattle.demands.proofs.Courses.{Course, begun, advanced, EachOf, each_next, b
 use Rattle.paging.proofs.Causes.{sound-ordered}
 use Rattle.demands.proofs.Theorems.{demand3}
 use Rattle.paging.proofs.Theorems.{page-left}
-use Rattle.rounds.specs.declared.Round.{Round}
+use Rattle.rounds.specs.Rounds.{RoundValues}
 use Rattle.rounds.specs.Shares.{client_at, turn_of, left_behind}
 use Rattle.rounds.specs.Shares as Shares
 use Rattle.rounds.specs.Rounds.{Request, ticket_at, counter_at, part_size, part_at, round_cause, probes_of, budget_at, page_at, counted_at, filled_at, answer_at, idle_page, round_call, round_counters, round_table}
@@ -53,7 +53,7 @@ module _ (q : Request) where
   unfolding round_call
   round_number = go (round_cause q) _ _
     where
-      go : (n next : ℕ) (pages : List Page) → ◌≡◌ {A = ℕ} (on_cause {A = Round} n (record { number = 0; next = next; pages = pages }) (λ m. record { number = m; next = 0; pages = map (λ t. refused_page t m) q.tickets })).number n
+      go : (n next : ℕ) (pages : List PageValues) → ◌≡◌ {A = ℕ} (on_cause {A = RoundValues} n (record { number = 0; next = next; pages = pages }) (λ m. record { number = m; next = 0; pages = map (λ t. refused_page t m) q.tickets })).number n
       go zero next pages = refl
       go (suc n) next pages = refl
 
@@ -80,7 +80,7 @@ module _ (q : Request) (typed : Typed q.shape) (e : round_cause q ≡ 0) where
   page-at : (t : ℕ) → 1 ≤ t → t ≤ 16 → client_page q t ≡ answer_at q t
   page-at t a b =
       let z : 1 + (t - 1) ≡ t = omega arith in
-      ap (λ (l : List Page). get_or l (t - 1) (idle_page (record { cursor = ended_cursor; count = 0 }))) pages-are ∙ get_d-upto (answer_at q) 1 16 (t - 1) _ (omega arith) ∙ ap (answer_at q) z
+      ap (λ (l : List PageValues). get_or l (t - 1) (idle_page (record { cursor = ended_cursor; count = 0 }))) pages-are ∙ get_d-upto (answer_at q) 1 16 (t - 1) _ (omega arith) ∙ ap (answer_at q) z
 
   page-of : (t : ℕ) → 1 ≤ t → t ≤ q.clients → client_page q t ≡ page_at q t
   page-of t a b = page-at t a (omega (arith, acc.fit.few)) ∙ rw (le-leb t q.clients b)
@@ -106,7 +106,7 @@ module _ (q : Request) (typed : Typed q.shape) (e : round_cause q ≡ 0) where
   unfolding probes_of
   probes-at i h =
       let c = client_at q.clients q.first i in
-      ap (λ (p : Page). p.probes) (page-of c (client-from q.clients q.first from to i h) (client-to q.clients q.first from to i h)) ∙ ap (probes_of q c) (budget-at i h)
+      ap (λ (p : PageValues). p.probes) (page-of c (client-from q.clients q.first from to i h) (client-to q.clients q.first from to i h)) ∙ ap (probes_of q c) (budget-at i h)
 
   -- the probes of the first i clients that are served
   abbrev spent : (i : ℕ) → ℕ
@@ -187,8 +187,8 @@ module _ (q : Request) (typed : Typed q.shape) (e : round_cause q ≡ 0) where
       share : {S : Type 0} {o : Overlay S} {w : List (Probe S)} → PageHolds o (call_of q t) w (answer (call_of q t)) (table_after (call_of q t))
           → ((client_page q t).stop ≡ Ended) ⊎ (((client_page q t).stop ≡ Full) ⊎ (q.budget / q.clients ≤ (client_page q t).probes))
       share h =
-          let stop = ap (λ (p : Page). p.stop) (page-of t a b) in
-          let probes = ap (λ (p : Page). p.probes) (page-of t a b) in
+          let stop = ap (λ (p : PageValues). p.stop) (page-of t a b) in
+          let probes = ap (λ (p : PageValues). p.probes) (page-of t a b) in
           ⊎_elim (λ k. inl (stop ∙ k.0)) (⊎_elim (λ k. inr (inl (stop ∙ k.0))) (λ k. inr (inr (omega (arith, probes, k.3, its-share t a b))))) h.stops
 
       rows : part_of q t (round_table q) ≡ table_after (call_of q t)
@@ -200,7 +200,7 @@ module _ (q : Request) (typed : Typed q.shape) (e : round_cause q ≡ 0) where
           let p = page-of t a b in
           let r = rows-alone (call_of q t) table long typed passes in (
             answer-alone (call_of q t) table long ∙ sym p,
-            subst (λ (n : ℕ). rows_in q.shape.k n (table_after (call_with q t table)) ≡ rows_in q.shape.k n (table_after (call_of q t))) (sym (ap (λ (g : Page). g.rows) p)) r
+            subst (λ (n : ℕ). rows_in q.shape.k n (table_after (call_with q t table)) ≡ rows_in q.shape.k n (table_after (call_of q t))) (sym (ap (λ (g : PageValues). g.rows) p)) r
                 ∙ sym (ap (rows_in q.shape.k (client_page q t).rows) rows),
           )
 
@@ -210,11 +210,11 @@ module _ (q : Request) (typed : Typed q.shape) (e : round_cause q ≡ 0) where
   probes-sum =
       let m = q.clients in
       let g : ℕ → ℕ = λ t. (client_page q t).probes in
-      let a = ap (λ (l : List Page). sum (map (λ p. p.probes) l)) pages-are ∙ ap sum (map_each (λ p. p.probes) (λ t. answer_at q t ∷ []) 1 16) in
-      let b : sum (upto (λ t. (answer_at q t).probes) 1 16) ≡ sum (upto g 1 16) = ap sum (each_within (λ t. (answer_at q t).probes ∷ []) (λ t. g t ∷ []) 1 16 (λ t x y. ap (λ (p : Page). p.probes ∷ []) (sym (page-at t x (omega arith))))) in
+      let a = ap (λ (l : List PageValues). sum (map (λ p. p.probes) l)) pages-are ∙ ap sum (map_each (λ p. p.probes) (λ t. answer_at q t ∷ []) 1 16) in
+      let b : sum (upto (λ t. (answer_at q t).probes) 1 16) ≡ sum (upto g 1 16) = ap sum (each_within (λ t. (answer_at q t).probes ∷ []) (λ t. g t ∷ []) 1 16 (λ t x y. ap (λ (p : PageValues). p.probes ∷ []) (sym (page-at t x (omega arith))))) in
       let z : m + (16 - m) ≡ 16 = omega (arith, acc.fit.few) in
       let c = rw z at (total-parts g 1 m (16 - m)) in
-      let d : sum (upto g (1 + m) (16 - m)) ≡ 0 = zeros g (1 + m) (16 - m) (λ t x y. ap (λ (p : Page). p.probes) (page-past t (omega arith) (omega arith))) in
+      let d : sum (upto g (1 + m) (16 - m)) ≡ 0 = zeros g (1 + m) (16 - m) (λ t x y. ap (λ (p : PageValues). p.probes) (page-past t (omega arith) (omega arith))) in
       a ∙ b ∙ c ∙ omega (arith, all-in-turn g m q.first from to)
     where
       zeros : (g : ℕ → ℕ) (p n : ℕ) → ((t : ℕ) → p ≤ t → t < p + n → g t ≡ 0) → sum (upto g p n) ≡ 0
@@ -331,7 +331,7 @@ module _ (s : Shape) (cells : List ℤ) (t : ℕ) where
     rows-are-theirs typed (in-turn {q = q} e l shape same h) =
         let c = client-holds q (subst Typed (sym shape) typed) e t low l in
         let x = call_of q t in
-        let a = ap (λ (g : Page). rows_in q.shape.k g.rows (part_of q t (round_table q))) c.page in
+        let a = ap (λ (g : PageValues). rows_in q.shape.k g.rows (part_of q t (round_table q))) c.page in
         let b = ap (λ (y : List ℕ). rows_in q.shape.k (answer x).rows y) c.part in
         let d = ap (λ (z : Shape). rows_in z.k (answer x).rows (table_after x)) shape in
         rw (served q e l) (ap₂ ◌++◌ (a ∙ (b ∙ d)) (rows-are-theirs typed h))
@@ -351,6 +351,7 @@ pub rounds-hold : RoundsHold
 rounds-hold = record {
   causes = round-causes;
   number = round_number;
+  answer = λ r. refl;
   refused = round-refused;
   accepted = round-holds;
   lists = λ s cells order counter t qs typed fresh low h. list-holds s cells t low order counter qs typed fresh h;

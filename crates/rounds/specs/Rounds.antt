@@ -4,15 +4,25 @@ use Rattle.std.proofs.Math.Option.{none}
 use Rattle.lists.specs.Lists.{each, upto}
 use Rattle.totals.specs.Totals.{total_of}
 use Rattle.plan.specs.declared.Shape.{Shape}
-use Rattle.plan.specs.Causes.{unless, ◌or_else◌, on_cause}
+use Rattle.plan.specs.Causes.{refusal, unless, ◌or_else◌, on_cause}
 use Rattle.sweep.specs.Sweep.{order_cause}
-use Rattle.search.specs.declared.Stop.TheVariants.{Spent}
-use Rattle.paging.specs.declared.Page.{Page}
+use Rattle.search.specs.Stops.{Spent}
+use Rattle.paging.specs.Answers.{PageValues, page_told}
 use Rattle.paging.specs.declared.Ticket.{Ticket}
 use Rattle.paging.specs.Cursors.{ended_cursor}
 use Rattle.paging.specs.Calls.{page_cause, refused_page, page_call, page_table, page_counter}
 use Rattle.rounds.specs.declared.Round.{Round}
 use Rattle.rounds.specs.Shares.{after, offered}
+
+-- what a round answers: the number of a refusal or 0, the client that the next round starts with, and the page of each of sixteen clients
+pub record RoundValues : Type 0 where
+  pub number : ℕ
+  pub next : ℕ
+  pub pages : List PageValues
+
+-- those of the code's answer
+abbrev pub round_told : Round → RoundValues
+round_told r = record { number = refusal r.checks; next = r.next; pages = map page_told r.pages }
 
 -- whatever a round brings: a plan, its order, "B trials, m tickets and one table", the client that is served first, and the run records
 pub record Request : Type 0 where
@@ -27,7 +37,7 @@ pub record Request : Type 0 where
   pub table : List ℕ
 
 -- 02: "past m the ticket comes back as given, the stop is Spent and all else 0"
-abbrev pub idle_page : Ticket → Page
+abbrev pub idle_page : Ticket → PageValues
 idle_page t = record { stop = Spent; rows = 0; probes = 0; area = total_of 0; ticket = t }
 
 -- ---- what belongs to client t
@@ -80,7 +90,7 @@ module _ (q : Request) where
   budget_at t = offered probes_of q.clients q.first q.budget t
 
   -- 02: each "makes one page call with that": its answer, its counter and its part afterwards
-  abbrev pub page_at : (t : ℕ) → Page
+  abbrev pub page_at : (t : ℕ) → PageValues
   page_at t = page_call none q.shape q.cells q.order (ticket_at t) (counter_at t) (budget_at t) (part_at t)
 
   abbrev pub counted_at : (t : ℕ) → List ℕ
@@ -90,13 +100,13 @@ module _ (q : Request) where
   filled_at t = page_table none q.shape q.cells q.order (ticket_at t) (counter_at t) (budget_at t) (part_at t)
 
   -- what client t gets, of sixteen
-  abbrev pub answer_at : (t : ℕ) → Page
+  abbrev pub answer_at : (t : ℕ) → PageValues
   answer_at t = cond (leb t q.clients) (page_at t) (idle_page (ticket_at t))
 
   -- ---- the round
   -- 02: "The next round starts with the tablet after this first one (1 after m), returned with each tablet's page answer". "A refused round .. returns, beside
   -- its number, every ticket as given and each stop as a refusal with that number"; 01: and 0 for all else
-  unfoldable pub round_call : Round
+  unfoldable pub round_call : RoundValues
   round_call =
       on_cause round_cause (record { number = 0; next = after q.clients q.first; pages = upto answer_at 1 16 })
       (λ n. record { number = n; next = 0; pages = map (λ t. refused_page t n) q.tickets })

@@ -6,13 +6,13 @@ use Rattle.std.proofs.Math.Option.{none}
 use Rattle.lists.specs.Lists.{sum, numbers, keep}
 use Rattle.totals.specs.Totals.{total_of}
 use Rattle.plan.specs.declared.Shape.{Shape}
-use Rattle.plan.specs.Causes.{Check, Passed}
+use Rattle.plan.specs.Causes.{refusal, Check, Passed}
 use Rattle.plan.specs.Plan.{grown, Typed}
 use Rattle.plan.specs.Theorems.{PlanChecks}
 use Rattle.sweep.specs.Sweep.{sweep_order}
-use Rattle.search.specs.declared.Stop.TheVariants.{Ended, Full, Spent, Refused}
+use Rattle.search.specs.Stops.{Ended, Full, Spent, Refused}
 use Rattle.paging.specs.declared.Ticket.{Ticket}
-use Rattle.paging.specs.declared.Page.{Page}
+use Rattle.paging.specs.Answers.{PageValues, page_told}
 use Rattle.paging.specs.Cursors.{ended_cursor}
 use Rattle.paging.specs.Overlays.{overlay}
 use Rattle.paging.specs.Calls.{fresh_cause, fresh_call, fresh_counter}
@@ -20,7 +20,8 @@ use Rattle.paging.specs.Theorems.{Call, cause, answer, table_after, counted, Goo
 use Rattle.demands.specs.Theorems.{OneRun, Last, handed, PagingHolds, TicketsHold}
 use Rattle.rows.specs.Tables.{rows_in}
 use Rattle.rounds.specs.Shares.{client_at}
-use Rattle.rounds.specs.Rounds.{Request, idle_page, ticket_at, counter_at, part_at, round_cause, budget_at, round_call, round_counters, round_table}
+use Rattle.rounds.specs.declared.Round.{Round}
+use Rattle.rounds.specs.Rounds.{Request, round_told, idle_page, ticket_at, counter_at, part_at, round_cause, budget_at, round_call, round_counters, round_table}
 
 -- ---- causes
 -- "then 6 and 18 for each tablet, the lowest tablet deciding": of n clients from t on, each with its ticket and its cell of the run records (`Good`,
@@ -71,7 +72,7 @@ module _ (q : Request) where
   call_of t = call_with t (part_at q t)
 
   -- the page that client t got
-  abbrev pub client_page : (t : ℕ) → Page
+  abbrev pub client_page : (t : ℕ) → PageValues
   client_page t = get_or (round_call q).pages (t - 1) (idle_page (record { cursor = ended_cursor; count = 0 }))
 
   -- a table is "cut from its first cell into m parts, in tablet order from tablet 1, of cells / (k × m) rows, rounded down": the cells of each, and part t
@@ -170,6 +171,8 @@ pub record ListHolds (s : Shape) (cells : List ℤ) (first : Ticket) (counter : 
 pub record RoundsHold : Type 0 where
   pub causes : (q : Request) → Typed q.shape → RoundChecks q (round_cause q)
   pub number : (q : Request) → (round_call q).number ≡ round_cause q
+  -- what its answer says: the number of its cause or 0, who is next, and the pages as each page call says them
+  pub answer : (r : Round) → round_told r ≡ record { number = refusal r.checks; next = r.next; pages = map page_told r.pages }
   pub refused : (q : Request) (n : ℕ) → round_cause q ≡ suc n → RoundRefused q (suc n)
   pub accepted : (q : Request) → Typed q.shape → round_cause q ≡ 0 → RoundHolds q
   -- every list of rounds, and the run of any client that an accepted fresh start begins: each accepted round that serves it brings the same plan, a ticket of

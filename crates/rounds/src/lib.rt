@@ -3,11 +3,13 @@
 #![tactic(auto)]
 
 use paging::Page;
+use plan::Cause;
 
-// What a round answers: the number of a refusal or 0, the client that the next round starts with, and the page of each of sixteen clients.
+// What a round answers: what its checks say, the client that the next round starts with, and the page of each of sixteen clients. A refused round has each
+// ticket as given, and each stop as its refusal.
 #[derive(Clone, Copy)]
 pub struct Round {
-    pub number: u32,
+    pub checks: Result<(), Cause>,
     pub next: u32,
     pub pages: [Page; 16],
 }

@@ -9,25 +9,25 @@ use lib.ListN.{length}
 use Rattle.plan.specs.declared.Shape.{Shape}
 use Rattle.plan.specs.Causes.{◌or_else◌}
 use Rattle.sweep.specs.Sweep.{order_cause}
-use Rattle.paging.specs.declared.Page.{Page}
+use Rattle.paging.specs.Answers.{PageValues}
 use Rattle.paging.specs.Calls.{page_cause}
 use Rattle.slots.specs.declared.Frame.{Frame}
 use Rattle.slots.specs.Frames.{Made}
 use Rattle.pager.proofs.Calls.{Admitted}
-use Rattle.rounds.specs.declared.Round.{Round}
+use Rattle.rounds.specs.Rounds.{RoundValues}
 use Rattle.rounds.specs.Shares.{after}
 use Rattle.rounds.specs.Rounds.{Request, ticket_at, counter_at, fits_round, clients_cause, round_cause, round_call, round_counters, round_table}
 use Rattle.rounds_code.specs.Parts.{cause_from, refused_round, Opens, AllServed, RoundAnswered}
 
 module _ (q : Request) where
   -- a refusal
-  pub round-refused : (n : ℕ) → n ≡ round_cause q → (n ≡ 0 → ⊥) → (r : Round) → r ≡ refused_round n q.tickets → RoundAnswered q r q.counters q.table
+  pub round-refused : (n : ℕ) → n ≡ round_cause q → (n ≡ 0 → ⊥) → (r : RoundValues) → r ≡ refused_round n q.tickets → RoundAnswered q r q.counters q.table
   unfolding round_call round_counters round_table
   round-refused zero e h r a = absurd (h refl)
   round-refused (suc n) e h r a = record { answer = rw (← e) a; counters = rw (← e); table = rw (← e) }
 
   -- a round whose clients are all served
-  pub round-given : 0 ≡ round_cause q → (r : List Page) (counted filled : List ℕ) → AllServed q r counted filled → (next : ℕ) → next ≡ after q.clients q.first → RoundAnswered q (record { number = 0; next = next; pages = r }) counted filled
+  pub round-given : 0 ≡ round_cause q → (r : List PageValues) (counted filled : List ℕ) → AllServed q r counted filled → (next : ℕ) → next ≡ after q.clients q.first → RoundAnswered q (record { number = 0; next = next; pages = r }) counted filled
   unfolding round_call round_counters round_table
   round-given e r counted filled a next n = record { answer = rw (← e, n, a.pages); counters = rw (← e) a.counters; table = rw (← e) a.table }
 
@@ -55,5 +55,5 @@ pub opens : (s : Shape) (plain : List ℤ) (order : List ℕ) (here : List ℤ) 
 opens s plain order here f a m = record { sound = a.sound; passed = a.passed; is = a.is; k = m.k; sizes = a.sizes }
 
 -- the promise, clause by clause
-pub parts : {q : Request} {r : Round} {counted filled : List ℕ} → RoundAnswered q r counted filled → (r ≡ round_call q) × ((counted ≡ round_counters q) × (filled ≡ round_table q))
+pub parts : {q : Request} {r : RoundValues} {counted filled : List ℕ} → RoundAnswered q r counted filled → (r ≡ round_call q) × ((counted ≡ round_counters q) × (filled ≡ round_table q))
 parts a = (a.answer, (a.counters, a.table))

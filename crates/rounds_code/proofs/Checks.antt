@@ -6,8 +6,6 @@ use mathlib.Core.Option.{none}
 use Prim.Native.Nat.{ℕ, suc, ◌+◌, ◌-◌, ◌≤◌, ◌<◌}
 use native.Mathlib.Numerals.{add-one}
 use native.Mathlib.Omega.{arith}
-use lib.Dec.{eqb}
-use borrow.Author.Tests.{le-leb, lt-leb}
 use lib.IntN.{ℤ}
 use lib.ListN.{length, get_or, take, drop}
 use Rattle.plan.specs.declared.Shape.{Shape}
@@ -22,39 +20,9 @@ use Rattle.paging.specs.Calls.{page_cause}
 use Rattle.paging.specs.Inner.{cause_before}
 use Rattle.slots.specs.declared.Frame.{Frame}
 use Rattle.pager.specs.Answers.{overlay_in, plain_overlay, ticket_cause}
-use Rattle.rounds.specs.Rounds.{ticket_of, counter_of, fits_round}
+use Rattle.rounds.specs.Rounds.{ticket_of, counter_of}
 use Rattle.rounds_code.specs.Parts.{cause_from, Opens, OnPlans}
 use Rattle.rounds.proofs.Parts.{get_d_any}
-
--- ---- 22
-module _ (m first budget records : ℕ) where
-  pub no-clients : m < 1 → false ≡ fits_round m first budget records
-  unfolding fits_round
-  no-clients h = rw (lt-leb 1 m h)
-
-  module _ (a : 1 ≤ m) where
-    pub many-clients : 16 < m → false ≡ fits_round m first budget records
-    unfolding fits_round
-    many-clients h = rw (le-leb 1 m a, lt-leb m 16 h)
-
-    module _ (b : m ≤ 16) where
-      pub no-first : first < 1 → false ≡ fits_round m first budget records
-      unfolding fits_round
-      no-first h = rw (le-leb 1 m a, le-leb m 16 b, lt-leb 1 first h)
-
-      module _ (c : 1 ≤ first) where
-        pub other-first : m < first → false ≡ fits_round m first budget records
-        unfolding fits_round
-        other-first h = rw (le-leb 1 m a, le-leb m 16 b, le-leb 1 first c, lt-leb first m h)
-
-        module _ (d : first ≤ m) where
-          pub high-budget : 4294967295 < budget → false ≡ fits_round m first budget records
-          unfolding fits_round
-          high-budget h = rw (le-leb 1 m a, le-leb m 16 b, le-leb 1 first c, le-leb first m d, lt-leb budget 4294967295 h)
-
-          pub counted : budget ≤ 4294967295 → eqb records m ≡ fits_round m first budget records
-          unfolding fits_round
-          counted h = rw (le-leb 1 m a, le-leb m 16 b, le-leb 1 first c, le-leb first m d, le-leb budget 4294967295 h)
 
 -- ---- 6 and 18
 module _ {s : Shape} {plain : List ℤ} {order : List ℕ} {here : List ℤ} {f : Frame} (k : Opens s plain order here f) where

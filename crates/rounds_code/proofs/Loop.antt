@@ -14,8 +14,8 @@ use Rattle.geometry.specs.declared.Rect.{Rect}
 use Rattle.sweep.specs.Sweep.{sweep_order}
 use Rattle.search.specs.Traversal.{Probe, row_of}
 use Rattle.search.proofs.Paging.{page-budget}
-use Rattle.search.specs.declared.Stop.TheVariants.{Spent}
-use Rattle.paging.specs.declared.Page.{Page}
+use Rattle.search.specs.Stops.{Spent}
+use Rattle.paging.specs.Answers.{PageValues}
 use Rattle.paging.specs.declared.Ticket.{Ticket}
 use Rattle.paging.specs.Overlays.{Overlay}
 use Rattle.paging.specs.Cursors.{resume}
@@ -32,22 +32,22 @@ use Rattle.rounds_code.specs.Parts.{request, empty_page, OnPlans, OneServed, All
 use Rattle.rounds_code.proofs.Turns.{map-long, Turned, turned_none, turned-all, turned_more}
 
 -- no more is done than the budget
-pub paged-few : (o : Overlay Rect) (t : Ticket) (counter : List ℕ) (budget : ℕ) (before : List ℕ) (r : Page) (counted after : List ℕ) → PagedAt o t counter budget before r counted after → r.probes ≤ budget
+pub paged-few : (o : Overlay Rect) (t : Ticket) (counter : List ℕ) (budget : ℕ) (before : List ℕ) (r : PageValues) (counted after : List ℕ) → PagedAt o t counter budget before r counted after → r.probes ≤ budget
 paged-few o t counter budget before r counted after p = go (resume o t.cursor) (current t.count counter) refl refl
   where
     kept : (n : ℕ) → Kept t n counter before r counted after → r.probes ≤ budget
-    kept n k = let e = ap (λ (x : Page). x.probes) k.answer in omega arith
+    kept n k = let e = ap (λ (x : PageValues). x.probes) k.answer in omega arith
 
     go : (w : Option (List (Probe Rect))) (b : Bool) → resume o t.cursor ≡ w → current t.count counter ≡ b → r.probes ≤ budget
     go none b e c = kept 6 (p.lost e)
     go (some w) false e c = kept 18 (p.stale w e c)
     go (some w) true e c =
-        let a = ap (λ (x : Page). x.probes) (p.found w e c).0.answer in
+        let a = ap (λ (x : PageValues). x.probes) (p.found w e c).0.answer in
         omega (arith, page-budget row_of budget (room o before) (list_in (resume o t.cursor)))
 
 module _ (f : Frame) (here : List ℤ) (order : List ℕ) (m first budget : ℕ) (tickets : List Ticket) (counters table : List ℕ) (size : ℕ) where
   -- behind i turns; `client` is due next
-  pub record Going (held lent : List ℕ) (r : List Page) (client left i : ℕ) : Type 0 where
+  pub record Going (held lent : List ℕ) (r : List PageValues) (client left i : ℕ) : Type 0 where
     pub few : i ≤ m
     pub due : client ≡ client_at m first i
     pub enough : left ≤ budget
@@ -57,7 +57,7 @@ module _ (f : Frame) (here : List ℤ) (order : List ℕ) (m first budget : ℕ)
     pub turned : OnPlans order here f (λ s plain. Turned (request s plain order m first budget tickets counters table) i r held lent left)
 
   module _ (from : 1 ≤ first) (to : first ≤ m) (most : m ≤ 16) (long : length counters ≡ m) (sixteen : length tickets ≡ 16) (parts : size ≡ f.k * (length table / (f.k * m))) where
-    pub going-none : (r : List Page) → r ≡ map (empty_page Spent) tickets → Going counters table r first budget 0
+    pub going-none : (r : List PageValues) → r ≡ map (empty_page Spent) tickets → Going counters table r first budget 0
     going-none r e = record {
       few = omega arith;
       due = refl;
@@ -68,10 +68,10 @@ module _ (f : Frame) (here : List ℤ) (order : List ℕ) (m first budget : ℕ)
       turned = λ s plain k. rw e (turned_none (request s plain order m first budget tickets counters table) from to most long sixteen k.sound.typed);
     }
 
-    pub going-all : (held lent : List ℕ) (r : List Page) (client left i : ℕ) → Going held lent r client left i → m ≤ i → OnPlans order here f (λ s plain. AllServed (request s plain order m first budget tickets counters table) r held lent)
+    pub going-all : (held lent : List ℕ) (r : List PageValues) (client left i : ℕ) → Going held lent r client left i → m ≤ i → OnPlans order here f (λ s plain. AllServed (request s plain order m first budget tickets counters table) r held lent)
     going-all held lent r client left i g h s plain k = turned-all (request s plain order m first budget tickets counters table) from to most long sixteen k.sound.typed i r held lent left (g.turned s plain k) h
 
-    module _ (held lent : List ℕ) (r : List Page) (client left i : ℕ) (g : Going held lent r client left i) (h : i < m) where
+    module _ (held lent : List ℕ) (r : List PageValues) (client left i : ℕ) (g : Going held lent r client left i) (h : i < m) where
       pub due-from : 1 ≤ client
       due-from = omega (arith, g.due, client-from m first from to i h)
 
@@ -87,7 +87,7 @@ module _ (f : Frame) (here : List ℤ) (order : List ℕ) (m first budget : ℕ)
           one_less zero n a = absurd (omega arith)
           one_less (suc t) n a = let z : suc t - 1 ≡ t = omega arith in rw z (omega arith)
 
-      module _ (p : Page) (heldAfter lentAfter : List ℕ) (one : OneServed (plain_overlay f here) (ticket_of tickets (suc (client - 1))) (client - 1) size (left / (m - i)) held lent p heldAfter lentAfter) where
+      module _ (p : PageValues) (heldAfter lentAfter : List ℕ) (one : OneServed (plain_overlay f here) (ticket_of tickets (suc (client - 1))) (client - 1) size (left / (m - i)) held lent p heldAfter lentAfter) where
         pub probes-left : p.probes ≤ left
         probes-left = le_trans (paged-few _ _ _ _ _ p _ _ one.page) (div-le_self left (m - i))
 

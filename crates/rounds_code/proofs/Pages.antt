@@ -11,8 +11,8 @@ use lib.Dec.{eqb}
 use borrow.Author.Tests.{eqb-true, eqb-false}
 use Rattle.lists.specs.Lists.{upto}
 use Rattle.lists.proofs.Kept.{map-++, length-upto, get_d-upto}
-use Rattle.search.specs.declared.Stop.{Stop}
-use Rattle.paging.specs.declared.Page.{Page}
+use Rattle.search.specs.Stops.{Stop}
+use Rattle.paging.specs.Answers.{PageValues}
 use Rattle.paging.specs.declared.Ticket.{Ticket}
 use Rattle.geometry.specs.declared.Rect.{Rect}
 use Rattle.paging.specs.Overlays.{Overlay}
@@ -25,15 +25,15 @@ use Rattle.rounds_code.specs.Parts.{empty_page, OneServed}
 -- ---- pages that did nothing
 module _ (stop : Stop) (tickets : List Ticket) where
   -- the first i pages are those of the first i tickets
-  pub record Emptied (pages : List Page) (i : ℕ) : Type 0 where
+  pub record Emptied (pages : List PageValues) (i : ℕ) : Type 0 where
     pub few : i ≤ 16
     pub long : length pages ≡ 16
     pub same : take i pages ≡ map (empty_page stop) (take i tickets)
 
-  pub emptied-none : (pages : List Page) → length pages ≡ 16 → Emptied pages 0
+  pub emptied-none : (pages : List PageValues) → length pages ≡ 16 → Emptied pages 0
   emptied-none pages h = record { few = omega arith; long = h; same = refl }
 
-  pub emptied-more : (pages : List Page) (i : ℕ) → length tickets ≡ 16 → Emptied pages i → i < 16 → (d : Ticket) (p : Page) → p ≡ empty_page stop (get_or tickets i d) → Emptied (set pages i p) (i + 1)
+  pub emptied-more : (pages : List PageValues) (i : ℕ) → length tickets ≡ 16 → Emptied pages i → i < 16 → (d : Ticket) (p : PageValues) → p ≡ empty_page stop (get_or tickets i d) → Emptied (set pages i p) (i + 1)
   emptied-more pages i l e h d p q =
       let w = e.long in
       let z = add-one i in
@@ -42,12 +42,12 @@ module _ (stop : Stop) (tickets : List Ticket) where
         long = length-set pages i p ∙ e.long;
         same =
             rw z
-            (take-suc-set pages i p (omega arith) ∙ ap₂ (λ (a : List Page) (b : Page). a ++ b ∷ []) e.same q
+            (take-suc-set pages i p (omega arith) ∙ ap₂ (λ (a : List PageValues) (b : PageValues). a ++ b ∷ []) e.same q
             ∙ sym (map-++ (empty_page stop) (take i tickets) (get_or tickets i d ∷ []))
             ∙ ap (map (empty_page stop)) (sym (take-suc tickets i d (omega arith))));
       }
 
-  pub emptied-all : (pages : List Page) (i : ℕ) → length tickets ≡ 16 → Emptied pages i → 16 ≤ i → pages ≡ map (empty_page stop) tickets
+  pub emptied-all : (pages : List PageValues) (i : ℕ) → length tickets ≡ 16 → Emptied pages i → 16 ≤ i → pages ≡ map (empty_page stop) tickets
   emptied-all pages i l e h =
       sym (take_all i pages (omega (arith, e.long))) ∙ e.same ∙ ap (map (empty_page stop)) (take_all i tickets (omega arith))
 
@@ -72,7 +72,7 @@ set-upto f g n c a low high e same =
             get_or-set_other (upto f 1 n) (c - 1) i a a z ∙ get_d-upto f 1 n i a h ∙ sym (same (1 + i) (omega arith) (omega arith) (λ y. z (omega arith))) ∙ sym (get_d-upto g 1 n i a h)
 
 -- ---- one page call, with its counter and its part
-pub one-served : (o : Overlay Rect) (tickets : List Ticket) (at size budget : ℕ) (held lent : List ℕ) (d : Ticket) (a b : ℕ) → at < length tickets → a ≡ 1 → b ≡ size → (r : Page) (counted filled : List ℕ)
+pub one-served : (o : Overlay Rect) (tickets : List Ticket) (at size budget : ℕ) (held lent : List ℕ) (d : Ticket) (a b : ℕ) → at < length tickets → a ≡ 1 → b ≡ size → (r : PageValues) (counted filled : List ℕ)
     → PagedAt o (get_or tickets at d) (take a (drop at held)) budget (take b (drop (at * size) lent)) r counted filled
     → OneServed o (ticket_of tickets (suc at)) at size budget held lent r (take at held ++ (counted ++ drop a (drop at held))) (take (at * size) lent ++ (filled ++ drop b (drop (at * size) lent)))
 one-served o tickets at size budget held lent d a b l x y r counted filled h =

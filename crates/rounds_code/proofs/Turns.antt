@@ -17,8 +17,8 @@ use Rattle.lists.proofs.Kept.{length-upto, get_d-upto}
 use Rattle.geometry.specs.declared.Rect.{Rect}
 use Rattle.plan.specs.Plan.{Typed}
 use Rattle.sweep.specs.Sweep.{sweep_order}
-use Rattle.search.specs.declared.Stop.TheVariants.{Spent}
-use Rattle.paging.specs.declared.Page.{Page}
+use Rattle.search.specs.Stops.{Spent}
+use Rattle.paging.specs.Answers.{PageValues}
 use Rattle.paging.specs.declared.Ticket.{Ticket}
 use Rattle.paging.specs.Overlays.{Overlay}
 use Rattle.paging.specs.Cursors.{ended_cursor}
@@ -49,7 +49,7 @@ map-upto f l d n h =
     at i b = let z : 1 + i - 1 ≡ i = omega arith in sym (get_d-upto (λ t. f (get_or l (t - 1) d)) 1 n i (f d) b ∙ ap (λ (j : ℕ). f (get_or l j d)) z)
 
 -- a page call with equal things
-moved : (o : Overlay Rect) {t u : Ticket} {a b : List ℕ} {m n : ℕ} {k l : List ℕ} {r : Page} {x y : List ℕ} → t ≡ u → a ≡ b → m ≡ n → k ≡ l → PagedAt o t a m k r x y → PagedAt o u b n l r x y
+moved : (o : Overlay Rect) {t u : Ticket} {a b : List ℕ} {m n : ℕ} {k l : List ℕ} {r : PageValues} {x y : List ℕ} → t ≡ u → a ≡ b → m ≡ n → k ≡ l → PagedAt o t a m k r x y → PagedAt o u b n l r x y
 moved o {t} {u} {a} {b} {m} {n} {k} {l} {r} {x} {y} e f g h p =
     subst (λ (i : List ℕ). PagedAt o u b n i r x y) h (subst (λ (i : ℕ). PagedAt o u b i k r x y) g (subst (λ (i : List ℕ). PagedAt o u i m k r x y) f (subst (λ (i : Ticket). PagedAt o i a m k r x y) e p)))
 
@@ -58,10 +58,10 @@ module _ (q : Request) where
   abbrev till : {A : Type 0} → (i : ℕ) → (ℕ → A) → (ℕ → A) → ℕ → A
   till i f g t = cond (ltb (turn_of q.clients q.first t) i) (f t) (g t)
 
-  abbrev idle_at : ℕ → Page
+  abbrev idle_at : ℕ → PageValues
   idle_at t = idle_page (ticket_at q t)
 
-  pub record Turned (i : ℕ) (r : List Page) (held lent : List ℕ) (left : ℕ) : Type 0 where
+  pub record Turned (i : ℕ) (r : List PageValues) (held lent : List ℕ) (left : ℕ) : Type 0 where
     pub pages : r ≡ upto (till i (answer_at q) idle_at) 1 16
     pub counters : held ≡ each (till i (counted_at q) (counter_at q)) 1 q.clients ++ []
     pub table : lent ≡ each (till i (filled_at q) (part_at q)) 1 q.clients ++ drop (q.clients * part_size q) q.table
@@ -105,7 +105,7 @@ module _ (q : Request) where
     turned_none = record {
       pages =
           map-upto (empty_page Spent) q.tickets (record { cursor = ended_cursor; count = 0 }) 16 sixteen
-          ∙ each_within _ _ 1 16 (λ t a b. ap (λ (p : Page). p ∷ []) (sym (till-none (answer_at q) idle_at t)));
+          ∙ each_within _ _ 1 16 (λ t a b. ap (λ (p : PageValues). p ∷ []) (sym (till-none (answer_at q) idle_at t)));
       counters =
           sym (cut_all 1 q.counters q.clients)
           ∙ ap₂ ◌++◌ (each_within _ _ 1 q.clients (λ t a b. one t ∙ sym (till-none (counted_at q) (counter_at q) t))) (drop_of_length-le q.counters {i = q.clients * 1} (omega arith));
@@ -120,9 +120,9 @@ module _ (q : Request) where
     till-all : {A : Type 0} (f g : ℕ → A) (i t : ℕ) → q.clients ≤ i → 1 ≤ t → t ≤ q.clients → till i f g t ≡ f t
     till-all f g i t h a b = let l = turn_below q.clients q.first from to t a b in rw (lt-ltb (turn_of q.clients q.first t) i (omega arith))
 
-    pub turned-all : (i : ℕ) (r : List Page) (held lent : List ℕ) (left : ℕ) → Turned i r held lent left → q.clients ≤ i → AllServed q r held lent
+    pub turned-all : (i : ℕ) (r : List PageValues) (held lent : List ℕ) (left : ℕ) → Turned i r held lent left → q.clients ≤ i → AllServed q r held lent
     turned-all i r held lent left w h = record {
-      pages = w.pages ∙ each_within _ _ 1 16 (λ t a b. ap (λ (p : Page). p ∷ []) (page t a (total t q.clients)));
+      pages = w.pages ∙ each_within _ _ 1 16 (λ t a b. ap (λ (p : PageValues). p ∷ []) (page t a (total t q.clients)));
       counters = w.counters ∙ append-nil _ ∙ each_within _ _ 1 q.clients (λ t a b. till-all (counted_at q) (counter_at q) i t h a (omega arith));
       table = w.table ∙ ap (λ (l : List ℕ). l ++ drop (q.clients * part_size q) q.table) (each_within _ _ 1 q.clients (λ t a b. till-all (filled_at q) (part_at q) i t h a (omega arith)));
     }
@@ -166,7 +166,7 @@ module _ (q : Request) where
       pages-same t a n (inl b) = till-same (answer_at q) idle_at t a b n
       pages-same t a n (inr b) = past (i + 1) t b ∙ sym (past i t b)
 
-      module _ (r : List Page) (held lent : List ℕ) (left : ℕ) (w : Turned i r held lent left) where
+      module _ (r : List PageValues) (held lent : List ℕ) (left : ℕ) (w : Turned i r held lent left) where
         -- what client c brings
         its-counter : take 1 (drop (c - 1) held) ≡ counter_at q c
         its-counter =
@@ -187,7 +187,7 @@ module _ (q : Request) where
         its-ticket = let z : suc (c - 1) ≡ c = omega (arith, low) in ap (ticket_of q.tickets) z
 
         -- what it gets
-        pub turned_more : (here : List ℤ) (f : Frame) → Framing f here → q.order ≡ sweep_order here → Opens q.shape q.cells q.order here f → (p : Page) (heldAfter lentAfter : List ℕ)
+        pub turned_more : (here : List ℤ) (f : Frame) → Framing f here → q.order ≡ sweep_order here → Opens q.shape q.cells q.order here f → (p : PageValues) (heldAfter lentAfter : List ℕ)
             → OneServed (plain_overlay f here) (ticket_of q.tickets (suc (c - 1))) (c - 1) (part_size q) (left / (q.clients - i)) held lent p heldAfter lentAfter
             → Turned (i + 1) (set r (c - 1) p) heldAfter lentAfter (left - p.probes)
         unfolding left_behind probes_of
@@ -198,7 +198,7 @@ module _ (q : Request) where
             let z : (c - 1) * 1 ≡ c - 1 = omega arith in
             let u = part-put 1 q.clients (till i (counted_at q) (counter_at q)) [] (counters-one i) c low high (till (i + 1) (counted_at q) (counter_at q)) (till-same (counted_at q) (counter_at q)) in
             record {
-              pages = ap (λ (l : List Page). set l (c - 1) p) w.pages ∙ set-upto (till i (answer_at q) idle_at) (till (i + 1) (answer_at q) idle_at) 16 c p low (omega (arith, high)) (page ∙ sym (till-new (answer_at q) idle_at ∙ rw (le-leb c q.clients high))) (λ t a b n. pages-same t a n (total t q.clients));
+              pages = ap (λ (l : List PageValues). set l (c - 1) p) w.pages ∙ set-upto (till i (answer_at q) idle_at) (till (i + 1) (answer_at q) idle_at) 16 c p low (omega (arith, high)) (page ∙ sym (till-new (answer_at q) idle_at ∙ rw (le-leb c q.clients high))) (λ t a b n. pages-same t a n (total t q.clients));
               counters =
                   one.counters
                   ∙ ap₂ (λ (l x : List ℕ). take (c - 1) l ++ (x ++ drop 1 (drop (c - 1) l))) w.counters (told.1.1.0 ∙ sym (till-new (counted_at q) (counter_at q)))
@@ -207,5 +207,5 @@ module _ (q : Request) where
                   one.table
                   ∙ ap₂ (λ (l x : List ℕ). take ((c - 1) * part_size q) l ++ (x ++ drop (part_size q) (drop ((c - 1) * part_size q) l))) w.table (told.1.1.1 ∙ sym (till-new (filled_at q) (part_at q)))
                   ∙ part-put (part_size q) q.clients (till i (filled_at q) (part_at q)) (drop (q.clients * part_size q) q.table) (parts-long i) c low high (till (i + 1) (filled_at q) (part_at q)) (till-same (filled_at q) (part_at q));
-              rest = rw (add-one i) (ap₂ ◌-◌ w.rest (ap (λ (x : Page). x.probes) page ∙ ap (λ (j : ℕ). probes_of q c (left_behind (probes_of q) q.clients q.first q.budget j / (q.clients - j))) turn));
+              rest = rw (add-one i) (ap₂ ◌-◌ w.rest (ap (λ (x : PageValues). x.probes) page ∙ ap (λ (j : ℕ). probes_of q c (left_behind (probes_of q) q.clients q.first q.budget j / (q.clients - j))) turn));
             }

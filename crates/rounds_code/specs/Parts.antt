@@ -8,16 +8,16 @@ use Rattle.plan.specs.declared.Shape.{Shape}
 use Rattle.plan.specs.Plan.{sizes_of, grown, Sound}
 use Rattle.plan.specs.Causes.{◌or_else◌}
 use Rattle.sweep.specs.Sweep.{order_cause}
-use Rattle.search.specs.declared.Stop.{Stop}
-use Rattle.search.specs.declared.Stop.TheVariants.{Refused}
-use Rattle.paging.specs.declared.Page.{Page}
+use Rattle.search.specs.Stops.{Stop}
+use Rattle.search.specs.Stops.{Refused}
+use Rattle.paging.specs.Answers.{PageValues}
 use Rattle.paging.specs.declared.Ticket.{Ticket}
 use Rattle.paging.specs.Overlays.{Overlay}
 use Rattle.paging.specs.Calls.{page_cause}
 use Rattle.slots.specs.declared.Frame.{Frame}
 use Rattle.slots.specs.Frames.{frame_sizes}
 use Rattle.pager.specs.Answers.{PagedAt}
-use Rattle.rounds.specs.declared.Round.{Round}
+use Rattle.rounds.specs.Rounds.{RoundValues}
 use Rattle.rounds.specs.Rounds.{Request, ticket_of, counter_of, part_size, counted_at, filled_at, answer_at, round_call, round_counters, round_table}
 
 -- the request of a round with these arguments
@@ -41,10 +41,10 @@ cause_from s cells order tickets counters t (suc n) =
     page_cause none s cells order (ticket_of tickets t) (counter_of counters t) or_else cause_from s cells order tickets counters (suc t) n
 
 -- a page that did nothing
-abbrev pub empty_page : Stop → Ticket → Page
+abbrev pub empty_page : Stop → Ticket → PageValues
 empty_page stop t = record { stop = stop; rows = 0; probes = 0; area = total_of 0; ticket = t }
 
-abbrev pub refused_round : ℕ → List Ticket → Round
+abbrev pub refused_round : ℕ → List Ticket → RoundValues
 refused_round cause tickets = record { number = cause; next = 0; pages = map (empty_page (Refused cause)) tickets }
 
 -- a plan that its checks let through, the cells of its grown plan, and its frame
@@ -60,7 +60,7 @@ abbrev pub OnPlans : (order : List ℕ) → List ℤ → Frame → (Shape → Li
 OnPlans order here f P = (s : Shape) (plain : List ℤ) → Opens s plain order here f → P s plain
 
 -- a page call with the counter at a place and the part of this size there, which are put back
-pub record OneServed (o : Overlay Rect) (t : Ticket) (at size budget : ℕ) (held lent : List ℕ) (r : Page) (heldAfter lentAfter : List ℕ) : Type 0 where
+pub record OneServed (o : Overlay Rect) (t : Ticket) (at size budget : ℕ) (held lent : List ℕ) (r : PageValues) (heldAfter lentAfter : List ℕ) : Type 0 where
   pub counted : List ℕ
   pub filled : List ℕ
   pub page : PagedAt o t (take 1 (drop at held)) budget (take size (drop (at * size) lent)) r counted filled
@@ -68,13 +68,13 @@ pub record OneServed (o : Overlay Rect) (t : Ticket) (at size budget : ℕ) (hel
   pub table : lentAfter ≡ take (at * size) lent ++ (filled ++ drop size (drop (at * size) lent))
 
 -- all clients are served
-pub record AllServed (q : Request) (r : List Page) (counted filled : List ℕ) : Type 0 where
+pub record AllServed (q : Request) (r : List PageValues) (counted filled : List ℕ) : Type 0 where
   pub pages : r ≡ upto (answer_at q) 1 16
   pub counters : counted ≡ each (counted_at q) 1 q.clients
   pub table : filled ≡ each (filled_at q) 1 q.clients ++ drop (q.clients * part_size q) q.table
 
 -- the promise of the round call
-pub record RoundAnswered (q : Request) (r : Round) (counted filled : List ℕ) : Type 0 where
+pub record RoundAnswered (q : Request) (r : RoundValues) (counted filled : List ℕ) : Type 0 where
   pub answer : r ≡ round_call q
   pub counters : counted ≡ round_counters q
   pub table : filled ≡ round_table q

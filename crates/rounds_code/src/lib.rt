@@ -5,22 +5,21 @@
 mod serving;
 
 ghost use Rattle.std.specs.Prelude.{◌≡◌, false, ◌≤◌, length};
+ghost use Rattle.plan.specs.Causes.{number_of, refusal};
 ghost use Rattle.plan.specs.Plan.{sizes_of};
 ghost use Rattle.plan.specs.Frames.{Framed};
-ghost use Rattle.sweep.specs.Sweep.{sweep_order};
-ghost use Rattle.slots.specs.Frames.{Framing};
 ghost use Rattle.pager.specs.Answers.{OverGrown};
-ghost use Rattle.rounds.specs.Rounds.{Request, fits_round, round_call, round_counters, round_table};
+ghost use Rattle.rounds.specs.Rounds.{Request, round_told, fits_round, round_call, round_counters, round_table};
 ghost use Rattle.rounds_code.specs.Parts.{request, cause_from, refused_round, OnPlans, RoundAnswered};
+ghost use Rattle.sweep.specs.Sweep.{sweep_order};
 
-use pager::plain_cause;
-use paging::Ticket;
-use plan::{MOST_CELLS, Shape};
-use plan_code::{grown_cells, is_drawn, plan_cause};
+use pager::check_plain;
+use paging::{Stop, Ticket};
+use plan::{Cause, MOST_CELLS, Shape};
+use plan_code::{check_plan, grown_cells, is_drawn};
 use rounds::Round;
-use search::Stop;
 use serving::{after_client, empty_pages, serve_all};
-use slots::{Frame, frame_of};
+use slots::{Walk, frame_of};
 use sweep_code::is_order;
 
 // A round: m clients, served in turn from a given first one, each with its ticket, its counter and its part of the table, within a budget of probes in all.
@@ -46,11 +45,11 @@ pub fn round(
       counters = counters.old;
       table = table.old;
     } in
-        (result ≡ round_call q) × ((counters.new ≡ round_counters q) × (table.new ≡ round_table q)) }
+        (round_told result ≡ round_call q) × ((counters.new ≡ round_counters q) × (table.new ≡ round_table q)) }
 {
-    let cause = plan_cause(shape, cells);
-    if cause != 0 {
-        return refused_round(cause, tickets);
+    match check_plan(shape, cells) {
+        Ok(()) => {}
+        Err(cause) => return refused_round(cause, tickets),
     }
     if is_drawn(shape) {
         return round_over(
@@ -79,30 +78,28 @@ fn round_over(
     requires { (shape.k ≤ length shape.sizes) × Framed (sizes_of shape) grown.now }
     ensures { OverGrown shape grown.now (λ cells.
         RoundAnswered (request shape cells order.now m first budget tickets counters.old table.old)
-        result counters.new table.new) }
+        (round_told result) counters.new table.new) }
 {
     if !is_order(grown, order) {
-        return refused_round(5, tickets);
+        return refused_round(Cause::WrongOrder, tickets);
     }
-    round_on(
-        frame_of(shape, false),
-        grown,
+    let none = [0u32; 1];
+    let frame = frame_of(shape, false);
+    let walk = Walk {
+        frame,
+        cells: grown,
+        hours: &none,
         order,
-        m,
-        first,
-        budget,
-        tickets,
-        counters,
-        table,
-    )
+    };
+    round_on(&walk, m, first, budget, tickets, counters, table)
 }
 
-// A refused round: its number, every ticket as given, and each stop as that refusal.
-fn refused_round(cause: u32, tickets: [Ticket; 16]) -> Round
-    ensures { result ≡ refused_round cause tickets }
+// A refused round: its cause, every ticket as given, and each stop as that refusal.
+fn refused_round(cause: Cause, tickets: [Ticket; 16]) -> Round
+    ensures { round_told result ≡ refused_round (number_of cause) tickets }
 {
     Round {
-        number: cause,
+        checks: Err(cause),
         next: 0,
         pages: empty_pages(Stop::Refused(cause), tickets),
     }
@@ -112,56 +109,35 @@ fn refused_round(cause: u32, tickets: [Ticket; 16]) -> Round
 fn is_fitting(m: u32, first: u32, budget: u64, records: usize) -> bool
     ensures { result ≡ fits_round m first budget records }
 {
-    if m < 1 {
-        return false;
-    }
-    if 16 < m {
-        return false;
-    }
-    if first < 1 {
-        return false;
-    }
-    if m < first {
-        return false;
-    }
-    if 4294967295 < budget {
-        return false;
-    }
-    records == m as usize
+    (1..=16).contains(&m)
+        && (1..=m).contains(&first)
+        && budget <= 4294967295
+        && records == m as usize
 }
 
-// The first of the causes 6 and 18 that refuses a ticket, the lowest client's first, or 0.
-fn clients_cause(
-    frame: Frame,
-    cells: &[i32],
-    order: &[u32],
+// The first of the causes 6 and 18 that refuses a ticket, the lowest client's first.
+fn check_clients(
+    walk: &Walk,
     m: usize,
     tickets: [Ticket; 16],
     counters: &[u64],
-) -> u32
-    requires framing { Framing frame cells.now × (order.now ≡ sweep_order cells.now) × (frame.timed ≡ false) }
+) -> Result<(), Cause>
+    requires framing { (walk.now.order.now ≡ sweep_order walk.now.cells.now) × walk.now.frame.timed ≡ false }
     requires m_bound { (m ≤ 16) × (m ≤ length counters.now) }
-    ensures { OnPlans order.now cells.now frame (λ s plain.
-        result ≡ cause_from s plain order.now tickets counters.now 1 m) }
+    ensures { OnPlans walk.now.order.now walk.now.cells.now walk.now.frame (λ s plain.
+        refusal result ≡ cause_from s plain walk.now.order.now tickets counters.now 1 m) }
 {
-    let mut i: usize = 0;
-    while i < m {
+    for i in 0..m {
         let ticket = tickets[i];
         let next = i + 1;
-        let cause = plain_cause(frame, cells, order, ticket, &counters[i..next]);
-        if cause != 0 {
-            return cause;
-        }
-        i = next;
+        check_plain(walk, ticket, &counters[i..next])?;
     }
-    0
+    Ok(())
 }
 
 // A round on a plan and an order that are let through: its grown cells.
 fn round_on(
-    frame: Frame,
-    cells: &[i32],
-    order: &[u32],
+    walk: &Walk,
     m: u32,
     first: u32,
     budget: u64,
@@ -169,31 +145,21 @@ fn round_on(
     counters: &mut [u64],
     table: &mut [u32],
 ) -> Round
-    requires { Framing frame cells.now × (order.now ≡ sweep_order cells.now) × (frame.timed ≡ false) }
-    ensures { OnPlans order.now cells.now frame (λ s plain.
-        RoundAnswered (request s plain order.now m first budget tickets counters.old table.old)
-        result counters.new table.new) }
+    requires { (walk.now.order.now ≡ sweep_order walk.now.cells.now) × walk.now.frame.timed ≡ false }
+    ensures { OnPlans walk.now.order.now walk.now.cells.now walk.now.frame (λ s plain.
+        RoundAnswered (request s plain walk.now.order.now m first budget tickets counters.old table.old)
+        (round_told result) counters.new table.new) }
 {
     if !is_fitting(m, first, budget, counters.len()) {
-        return refused_round(22, tickets);
+        return refused_round(Cause::WrongRound, tickets);
     }
-    let lowest = clients_cause(frame, cells, order, m as usize, tickets, counters);
-    if lowest != 0 {
-        return refused_round(lowest, tickets);
+    match check_clients(walk, m as usize, tickets, counters) {
+        Ok(()) => {}
+        Err(lowest) => return refused_round(lowest, tickets),
     }
-    let pages = serve_all(
-        frame,
-        cells,
-        order,
-        m,
-        first,
-        budget as u32,
-        tickets,
-        counters,
-        table,
-    );
+    let pages = serve_all(walk, m, first, budget as u32, tickets, counters, table);
     Round {
-        number: 0,
+        checks: Ok(()),
         next: after_client(m, first),
         pages,
     }

@@ -1,16 +1,15 @@
 // The turns of a round: each client's page call, out of what is left of the budget, into its part of the table.
 ghost use Rattle.std.specs.Prelude.{◌≡◌, false, map, suc, ◌+◌, ◌*◌, ◌/◌, ◌≤◌, ◌<◌, length};
-ghost use Rattle.sweep.specs.Sweep.{sweep_order};
-ghost use Rattle.slots.specs.Frames.{Framing};
+ghost use Rattle.paging.specs.Answers.{stop_told, page_told};
 ghost use Rattle.pager.specs.Answers.{plain_overlay};
 ghost use Rattle.rounds.specs.Shares.{after};
 ghost use Rattle.rounds.specs.Rounds.{ticket_of};
 ghost use Rattle.rounds_code.specs.Parts.{request, empty_page, OnPlans, OneServed, AllServed};
+ghost use Rattle.sweep.specs.Sweep.{sweep_order};
 
 use pager::plain_page;
-use paging::{Page, Ticket};
-use search::Stop;
-use slots::Frame;
+use paging::{Page, Stop, Ticket};
+use slots::Walk;
 use totals::nothing;
 
 // The client after t of m.
@@ -26,7 +25,7 @@ pub fn after_client(m: u32, t: u32) -> u32
 
 // A page that did nothing.
 fn empty_page(stop: Stop, ticket: Ticket) -> Page
-    ensures { result ≡ empty_page stop ticket }
+    ensures { page_told result ≡ empty_page (stop_told stop) ticket }
 {
     Page {
         stop,
@@ -39,15 +38,11 @@ fn empty_page(stop: Stop, ticket: Ticket) -> Page
 
 // A page that did nothing for each ticket.
 pub fn empty_pages(stop: Stop, tickets: [Ticket; 16]) -> [Page; 16]
-    ensures { result ≡ map (empty_page stop) tickets }
+    ensures { map page_told result ≡ map (empty_page (stop_told stop)) tickets }
 {
-    let first = tickets[0];
-    let mut pages = [empty_page(stop, first); 16];
-    let mut i: usize = 0;
-    while i < 16 {
-        let ticket = tickets[i];
+    let mut pages = [empty_page(stop, tickets[0]); 16];
+    for (i, &ticket) in tickets.iter().enumerate() {
         pages[i] = empty_page(stop, ticket);
-        i += 1;
     }
     pages
 }
@@ -62,9 +57,7 @@ fn part_size(k: usize, m: usize, cells: usize) -> usize
 
 // The page call of the client at a place, from 0, with its counter and its part.
 fn serve_one(
-    frame: Frame,
-    cells: &[i32],
-    order: &[u32],
+    walk: &Walk,
     at: usize,
     size: usize,
     budget: u32,
@@ -72,19 +65,17 @@ fn serve_one(
     counters: &mut [u64],
     table: &mut [u32],
 ) -> Page
-    requires framing { Framing frame cells.now × (order.now ≡ sweep_order cells.now) × (frame.timed ≡ false) }
+    requires framing { (walk.now.order.now ≡ sweep_order walk.now.cells.now) × walk.now.frame.timed ≡ false }
     requires at_bound { (at < 16) × (at < length counters.old) × (at * size + size ≤ length table.old) }
-    ensures { OneServed (plain_overlay frame cells.now) (ticket_of tickets (suc at)) at size budget
-        counters.old table.old result counters.new table.new }
+    ensures { OneServed (plain_overlay walk.now.frame walk.now.cells.now) (ticket_of tickets (suc at)) at size budget
+        counters.old table.old (page_told result) counters.new table.new }
 {
     let ticket = tickets[at];
     let next = at + 1;
     let start = at * size;
     let end = start + size;
     plain_page(
-        frame,
-        cells,
-        order,
+        walk,
         ticket,
         &mut counters[at..next],
         budget,
@@ -94,9 +85,7 @@ fn serve_one(
 
 // The page calls of m clients in turn, from a given first one; past m, pages that did nothing.
 pub fn serve_all(
-    frame: Frame,
-    cells: &[i32],
-    order: &[u32],
+    walk: &Walk,
     m: u32,
     first: u32,
     budget: u32,
@@ -104,27 +93,23 @@ pub fn serve_all(
     counters: &mut [u64],
     table: &mut [u32],
 ) -> [Page; 16]
-    requires framing { Framing frame cells.now × (order.now ≡ sweep_order cells.now) × (frame.timed ≡ false) }
+    requires framing { (walk.now.order.now ≡ sweep_order walk.now.cells.now) × walk.now.frame.timed ≡ false }
     requires m_bound { (m ≤ 16) × (1 ≤ first) × (first ≤ m) × (length counters.old ≡ m) }
-    ensures { OnPlans order.now cells.now frame (λ s plain.
-        AllServed (request s plain order.now m first budget tickets counters.old table.old)
-        result counters.new table.new) }
+    ensures { OnPlans walk.now.order.now walk.now.cells.now walk.now.frame (λ s plain.
+        AllServed (request s plain walk.now.order.now m first budget tickets counters.old table.old)
+        (map page_told result) counters.new table.new) }
 {
-    let size = part_size(frame.k, m as usize, table.len());
+    let size = part_size(walk.frame.k, m as usize, table.len());
     let mut pages = empty_pages(Stop::Spent, tickets);
     let mut client = first;
     let mut left = budget;
-    let mut i: u32 = 0;
-    while i < m {
+    for i in 0..m {
         let at = (client - 1) as usize;
         let offer = left / (m - i);
-        let page = serve_one(
-            frame, cells, order, at, size, offer, tickets, counters, table,
-        );
+        let page = serve_one(walk, at, size, offer, tickets, counters, table);
         left -= page.probes;
         pages[at] = page;
         client = after_client(m, client);
-        i += 1;
     }
     pages
 }

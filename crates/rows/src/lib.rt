@@ -4,22 +4,18 @@
 
 use geometry::{Kind, Rect};
 
-// What the row call answers.
+// What the row call tells of a row: its left guard's layer, from 1, and the area.
 #[derive(Clone, Copy)]
-pub enum RowAnswer {
-    Refused(u32),
-    NoRow,
-    // The left guard's layer, from 1, and the area.
-    Row(u32, u64),
+pub struct Row {
+    pub layer: u32,
+    pub area: u64,
 }
 
-// What the call for a row's common ground answers.
+// The common rectangle of a row and its kind.
 #[derive(Clone, Copy)]
-pub enum CommonAnswer {
-    Refused(u32),
-    NoRow,
-    // The common rectangle and its kind.
-    Common(Rect, Kind),
+pub struct CommonGround {
+    pub rect: Rect,
+    pub kind: Kind,
 }
 
 // What the first rectangles of a row have in common, its kind, and the layer, from 0, of their left guard.
@@ -28,18 +24,4 @@ pub struct Ground {
     pub common: Rect,
     pub kind: Kind,
     pub guard: u32,
-}
-
-#[derive(Clone, Copy)]
-pub enum Sharing {
-    Nothing,
-    Shared(Ground),
-}
-
-// What cells name in a plan that may be refused.
-#[derive(Clone, Copy)]
-pub enum Named {
-    Refused(u32),
-    Nothing,
-    Row(Ground),
 }

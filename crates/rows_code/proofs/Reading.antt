@@ -7,6 +7,7 @@ use native.Mathlib.Omega.{arith}
 use lib.IntN.{ℤ}
 use lib.Dec.{ltb}
 use lib.ListN.{length, get_or, take, drop, take-append-drop}
+use Rattle.std.specs.Prelude.{Option}
 use Rattle.lists.specs.Lists.{All, none_left, ◌and◌, sum}
 use Rattle.lists.proofs.Numbers.{sum-++}
 use Rattle.lists.proofs.Tests.{both}
@@ -21,9 +22,9 @@ use Rattle.plan.proofs.Plan.{checked, front-sum, count-is, fit_small}
 use Rattle.plan.proofs.Spots.{rect-take, rect-drop, rect-number, size_of, layer-at}
 use Rattle.plan.proofs.Growing.{grown-rect, layers-grown, first-grown, layers-length, framed, get-small}
 use Rattle.join.specs.Join.{rects}
+use Rattle.rows.specs.declared.Ground.{Ground}
 use Rattle.rows.specs.RowCall.{fits}
 use Rattle.rows.specs.inner.Layers.{Reached}
-use Rattle.rows.specs.declared.Sharing.{Sharing}
 use Rattle.rows.specs.inner.Grounds.{shared_by, ground_of}
 use Rattle.rows.proofs.RowCall.{fits-at}
 use Rattle.rows.proofs.Layers.{sum-next}
@@ -111,7 +112,7 @@ module _ (ns : List ℕ) (cells : List ℤ) where
     widens = λ i j h. record { small = omega (arith, none j); ranged = λ z. absurd (z (none j)) };
   }
 
-  pub ground-widened : (row : List ℕ) (r : Sharing) → r ≡ ground_of (layers_of ns (widened ns no_margins cells)) row → r ≡ ground_of (layers_of ns cells) row
+  pub ground-widened : (row : List ℕ) (r : Option Ground) → r ≡ ground_of (layers_of ns (widened ns no_margins cells)) row → r ≡ ground_of (layers_of ns cells) row
   ground-widened row r q = q ∙ go (fits ns row) refl
     where
       go : (t : Bool) → fits ns row ≡ t → ground_of (layers_of ns (widened ns no_margins cells)) row ≡ ground_of (layers_of ns cells) row

@@ -3,89 +3,75 @@
 
 ghost use Rattle.std.specs.Prelude.{◌≡◌, true, [], ◌∷◌, ◌+◌, ◌*◌, ◌<◌, ◌≤◌, length, take, drop};
 ghost use Rattle.geometry.specs.Rectangles.{grown_by};
+ghost use Rattle.plan.specs.Causes.{by_number};
 ghost use Rattle.plan.specs.Plan.{rect_at, layers_of};
 ghost use Rattle.plan.specs.Frames.{Framed};
 ghost use Rattle.join.specs.Join.{rects};
 ghost use Rattle.rows.specs.RowCall.{fits, row_call, row_values, common_call, common_values};
-ghost use Rattle.rows.specs.inner.Grounds.{take_in, shared_by, ground_of, row_named, plan_named};
-ghost use Rattle.rows_code.specs.Reading.{widened, Widens, Readable};
+ghost use Rattle.rows.specs.inner.Grounds.{take_in, shared_by, ground_of, plan_named};
+ghost use Rattle.rows_code.specs.Reading.{widened, Widens};
 
-use geometry::{Meeting, Rect};
+mod drawings;
+
+pub use drawings::Drawing;
+use geometry::Rect;
 use geometry_code::{area, grow, meet};
-use plan::{MOST_LAYERS, Shape};
-use plan_code::{layer_cells, plan_cause, rect_at};
-use rows::{CommonAnswer, Ground, Named, RowAnswer, Sharing};
+use plan::{Cause, MOST_LAYERS, Shape};
+use plan_code::{check_plan, layer_cells, rect_at};
+use rows::{CommonGround, Ground, Row};
 
 // What the lent cells name in the table of a plan.
-pub fn row(shape: Shape, cells: &[i32], places: &[u32]) -> RowAnswer
-    ensures answer { result ≡ row_call shape cells.now places.now }
-    ensures values { row_values result ≡ row_values (row_call shape cells.now places.now) }
+pub fn row(shape: Shape, cells: &[i32], places: &[u32]) -> Result<Option<Row>, Cause>
+    ensures answer { by_number result ≡ row_call shape cells.now places.now }
+    ensures values { row_values (by_number result) ≡ row_values (row_call shape cells.now places.now) }
 {
-    match plan_named(shape, cells, places) {
-        Named::Refused(cause) => RowAnswer::Refused(cause),
-        Named::Nothing => RowAnswer::NoRow,
-        Named::Row(g) => RowAnswer::Row(g.guard + 1, area(g.common)),
+    match plan_named(shape, cells, places)? {
+        None => Ok(None),
+        Some(g) => Ok(Some(Row {
+            layer: g.guard + 1,
+            area: area(g.common),
+        })),
     }
 }
 
 // The common ground of the row that the lent cells name in the table of a plan.
-pub fn row_common(shape: Shape, cells: &[i32], places: &[u32]) -> CommonAnswer
-    ensures answer { result ≡ common_call shape cells.now places.now }
-    ensures values { common_values result ≡ common_values (common_call shape cells.now places.now) }
-{
-    match plan_named(shape, cells, places) {
-        Named::Refused(cause) => CommonAnswer::Refused(cause),
-        Named::Nothing => CommonAnswer::NoRow,
-        Named::Row(g) => {
-            let common = g.common;
-            let kind = g.kind;
-            CommonAnswer::Common(common, kind)
-        }
-    }
-}
-
-// The ground of the row that the cells name in a plan, which is checked and grown.
-fn plan_named(shape: Shape, cells: &[i32], places: &[u32]) -> Named
-    ensures { result ≡ plan_named shape cells.now places.now }
-{
-    let cause = plan_cause(shape, cells);
-    if cause != 0 {
-        return Named::Refused(cause);
-    }
-    row_named(
-        &shape.sizes,
-        &shape.margins,
-        shape.k as usize,
-        cells,
-        places,
-    )
-}
-
-// The same among the first k layers of a sound plan; only the rectangles of the row are grown.
-fn row_named<'a>(
-    sizes: &'a [u32],
-    margins: &'a [u32],
-    k: usize,
+pub fn row_common(
+    shape: Shape,
     cells: &[i32],
     places: &[u32],
-) -> Named
-    requires { (k ≤ length sizes.now) × Readable (take k sizes.now) margins.now cells.now }
-    ensures { let ns = take k sizes.now in
-        result ≡ row_named (layers_of ns (widened ns margins.now cells.now)) places.now }
+) -> Result<Option<CommonGround>, Cause>
+    ensures answer { by_number result ≡ common_call shape cells.now places.now }
+    ensures values { common_values (by_number result) ≡ common_values (common_call shape cells.now places.now) }
 {
-    match ground_in(&sizes[..k], margins, cells, places) {
-        Sharing::Nothing => Named::Nothing,
-        Sharing::Shared(g) => Named::Row(g),
+    match plan_named(shape, cells, places)? {
+        None => Ok(None),
+        Some(g) => Ok(Some(CommonGround {
+            rect: g.common,
+            kind: g.kind,
+        })),
     }
+}
+
+// The ground of the row that the cells name in a plan, which is checked.
+fn plan_named(shape: Shape, cells: &[i32], places: &[u32]) -> Result<Option<Ground>, Cause>
+    ensures { by_number result ≡ plan_named shape cells.now places.now }
+{
+    check_plan(shape, cells)?;
+    Ok(ground_in(&Drawing::of(&shape, cells), places))
 }
 
 // The ground of the row that the cells name among the first k layers, whose cells are grown, or nothing where they name none.
-pub fn row_ground(sizes: &[u32], k: usize, cells: &[i32], places: &[u32]) -> Sharing
+pub fn row_ground(sizes: &[u32], k: usize, cells: &[i32], places: &[u32]) -> Option<Ground>
     requires { (k ≤ length sizes.now) × Framed (take k sizes.now) cells.now }
     ensures { result ≡ ground_of (layers_of (take k sizes.now) cells.now) places.now }
 {
     let none = [0u32; MOST_LAYERS];
-    ground_in(&sizes[..k], &none, cells, places)
+    let drawing = Drawing {
+        sizes: &sizes[..k],
+        margins: &none,
+        cells,
+    };
+    ground_in(&drawing, places)
 }
 
 // The k cells from a place of the table on.
@@ -97,70 +83,46 @@ pub fn row_at(table: &[u32], start: usize, k: usize) -> &[u32]
     &table[start..e]
 }
 
-// The ground of the row that the cells name, each rectangle grown by its layer's margin as it is read.
-pub fn ground_in(sizes: &[u32], margins: &[u32], cells: &[i32], row: &[u32]) -> Sharing
-    requires { Readable sizes.now margins.now cells.now }
-    ensures { let ns = sizes.now in
-        result ≡ ground_of (layers_of ns (widened ns margins.now cells.now)) row.now }
+// The ground of the row that the cells name.
+pub fn ground_in(drawing: &Drawing, row: &[u32]) -> Option<Ground>
+    ensures { let ns = drawing.now.sizes.now in
+        result ≡ ground_of (layers_of ns (widened ns drawing.now.margins.now drawing.now.cells.now)) row.now }
 {
-    if !all_fit(sizes, row) {
-        return Sharing::Nothing;
+    if !all_fit(drawing.sizes, row) {
+        return None;
     }
-    share(sizes, margins, cells, row)
+    share(drawing, row)
 }
 
 // One place for each size, below it.
 pub fn all_fit(sizes: &[u32], row: &[u32]) -> bool
     ensures { result ≡ fits sizes.now row.now }
 {
-    if row.len() != sizes.len() {
-        return false;
-    }
-    let mut j = 0;
-    while j < sizes.len() {
-        if row[j] >= sizes[j] {
-            return false;
-        }
-        j += 1;
-    }
-    true
+    row.len() == sizes.len() && row.iter().zip(sizes).all(|(place, size)| place < size)
 }
 
 // What the rectangles of a row that fits share.
-fn share(sizes: &[u32], margins: &[u32], cells: &[i32], row: &[u32]) -> Sharing
-    requires readable { Readable sizes.now margins.now cells.now }
-    requires row_value { fits sizes.now row.now ≡ true }
-    ensures { let ns = sizes.now in
-        result ≡ shared_by (rects (layers_of ns (widened ns margins.now cells.now)) row.now) }
+fn share(drawing: &Drawing, row: &[u32]) -> Option<Ground>
+    requires { fits drawing.now.sizes.now row.now ≡ true }
+    ensures { let ns = drawing.now.sizes.now in
+        result ≡ shared_by (rects (layers_of ns (widened ns drawing.now.margins.now drawing.now.cells.now)) row.now) }
 {
+    let sizes = drawing.sizes;
+    let mut g = alone(drawing.rect(row, 0, 0))?;
     let mut start = sizes[0] as usize;
-    let Sharing::Shared(first) = alone(grown_in(cells, 0, start, row[0] as usize, margins[0]))
-    else {
-        return Sharing::Nothing;
-    };
-    let mut g = first;
-    let mut j = 1;
-    while j < sizes.len() {
-        let size = sizes[j] as usize;
-        let r = grown_in(cells, start, size, row[j] as usize, margins[j]);
-        let Sharing::Shared(next) = take_in(g, r, j as u32) else {
-            return Sharing::Nothing;
-        };
-        g = next;
-        start += size;
-        j += 1;
+    for j in 1..sizes.len() {
+        g = take_in(g, drawing.rect(row, start, j), j as u32)?;
+        start += sizes[j] as usize;
     }
-    Sharing::Shared(g)
+    Some(g)
 }
 
 // The ground of one rectangle: what it has in common with itself.
-fn alone(r: Rect) -> Sharing
+fn alone(r: Rect) -> Option<Ground>
     ensures { result ≡ shared_by (r ∷ []) }
 {
-    let Meeting::Common(common, kind) = meet(r, r) else {
-        return Sharing::Nothing;
-    };
-    Sharing::Shared(Ground {
+    let (common, kind) = meet(r, r)?;
+    Some(Ground {
         common,
         kind,
         guard: 0,
@@ -168,15 +130,13 @@ fn alone(r: Rect) -> Sharing
 }
 
 // The ground with the rectangle of one layer more.
-fn take_in(g: Ground, r: Rect, layer: u32) -> Sharing
+fn take_in(g: Ground, r: Rect, layer: u32) -> Option<Ground>
     ensures { result ≡ take_in g r layer }
 {
     let c = g.common;
-    let Meeting::Common(common, kind) = meet(c, r) else {
-        return Sharing::Nothing;
-    };
+    let (common, kind) = meet(c, r)?;
     let guard = if c.left < r.left { layer } else { g.guard };
-    Sharing::Shared(Ground {
+    Some(Ground {
         common,
         kind,
         guard,

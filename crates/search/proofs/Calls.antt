@@ -15,7 +15,7 @@ use Rattle.lists.specs.Lists.{All, none_left, ◌and◌, sum, keep}
 use Rattle.lists.proofs.Tests.{both, total}
 use Rattle.lists.proofs.Kept.{map-++}
 use Rattle.search.specs.Paging.{Paged, page, rows_of}
-use Rattle.search.specs.declared.Stop.TheVariants.{Ended}
+use Rattle.search.specs.Stops.{Ended}
 use Rattle.search.proofs.Chains.{accepts, done_in, rows_in, later, reported, handed, last_of, allowing, due, Chain, end, refused, accepted, Delivered}
 use Rattle.lists.proofs.Numbers.{sum-++}
 use Rattle.search.proofs.Paging.{rows_of-++, rows_of-first, page-rest, page-rows, page-budget, page-within, page-ended, page-moves}

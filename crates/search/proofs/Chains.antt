@@ -10,7 +10,7 @@ use lib.Dec.{ltb}
 use lib.ListN.{length, take, drop}
 use Rattle.lists.specs.Lists.{All, sum, keep}
 use Rattle.search.specs.Paging.{Paged, rows_of}
-use Rattle.search.specs.declared.Stop.TheVariants.{Ended}
+use Rattle.search.specs.Stops.{Ended}
 
 -- ---- what one call answers: a page, or none where it is refused
 module _ {A R : Type 0} where

@@ -1,4 +1,5 @@
 pub mod Traversal
+pub mod Stops
 pub mod Names
 pub mod Paging
 pub mod Narrowing

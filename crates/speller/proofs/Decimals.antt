@@ -2,10 +2,9 @@
 use mathlib.Core.Path.{◌≡◌, sym, ap, ◌∙◌}
 use mathlib.Core.List.{List}
 use Prim.Native.Nat.{ℕ, zero, suc, ◌+◌, ◌-◌, ◌/◌, ◌%◌, ◌^◌, ◌≤◌, ◌<◌}
-use native.Mathlib.Nat.{div-one}
 use native.Mathlib.Omega.{arith}
-use lib.ListN.{length, set}
-use lib.Seq.{sets, length-sets}
+use lib.ListN.{set}
+use lib.Seq.{sets}
 use Rattle.decimal.specs.Numerals.{digits, size, decimal}
 use Rattle.lists.specs.inner.Stores.{Put}
 use Rattle.decimal.proofs.Powers.{tenfold}
@@ -16,14 +15,6 @@ pub record Stored (first : List ℕ) (n end : ℕ) (buf : List ℕ) (i m : ℕ) 
   pub inside : i ≤ end
   pub rest : m ≡ n / 10 ^ (end - i)
   pub is : buf ≡ sets first i (digits (end - i) n)
-
-pub long : (first : List ℕ) (n end : ℕ) (buf : List ℕ) (i m : ℕ) → Stored first n end buf i m → length buf ≡ length first
-long first n end buf i m h = ap length h.is ∙ length-sets first i (digits (end - i) n)
-
-pub none_yet : (first : List ℕ) (n end : ℕ) → Stored first n end first end n
-none_yet first n end =
-    let z : end - end ≡ 0 = omega arith in
-    record { inside = omega arith; rest = rw z (sym (div-one n)); is = rw z }
 
 pub one_more : (first : List ℕ) (n end : ℕ) (buf : List ℕ) (i m : ℕ) → 0 < i → Stored first n end buf i m → Stored first n end (set buf (i - 1) (48 + m % 10)) (i - 1) (m / 10)
 one_more first n end buf zero m g h = absurd (omega arith)

@@ -1,23 +1,17 @@
-// Whole numbers in base ten, measured and put at a place of a buffer: any unsigned number of 64 bits, and signed ones. Powers of ten are worked out, each
+// Whole numbers in base ten, measured and written: any unsigned number of 64 bits, and signed ones. Powers of ten are worked out, each
 // ten times the one before.
 ghost use Rattle.std.specs.Prelude.{◌≡◌, true, ◌+◌, ◌<◌, ◌≤◌, length, nat_abs};
 ghost use Rattle.decimal.specs.Numerals.{size, decimal, numeral, short};
 ghost use Rattle.lists.specs.inner.Stores.{Put};
+ghost use Rattle.pens.specs.Pens.{RoomFor, wrote};
 
-// How many digits n has. `next` is ten to the power c + 1: each power is ten times the one before.
+use pens::Pen;
+
+// How many digits n has; 0 has one.
 pub fn size_of(n: u64) -> usize
     ensures { result ≡ size 19 n }
 {
-    let mut next: u64 = 10;
-    let mut c: usize = 0;
-    while c < 18 {
-        if n < next {
-            return c + 1;
-        }
-        next *= 10;
-        c += 1;
-    }
-    if n < next { 19 } else { 20 }
+    n.max(1).ilog10() as usize + 1
 }
 
 // The digits of n from a place of the buffer on; the place behind them. The last digit is stored first, so that each
@@ -27,38 +21,21 @@ pub fn put_decimal(buf: &mut [u8], at: usize, n: u64) -> usize
     ensures { Put buf.old at (decimal n) buf.new result }
 {
     let end = at + size_of(n);
-    let mut i = end;
     let mut m = n;
-    while at < i {
-        i -= 1;
+    for i in (at..end).rev() {
         buf[i] = 48 + (m % 10) as u8;
         m /= 10;
     }
     end
 }
 
-// A word; the place behind it.
-pub fn put_word(buf: &mut [u8], at: usize, word: &[u8]) -> usize
-    requires { at + length word.now ≤ length buf.old }
-    ensures { Put buf.old at word.now buf.new result }
+// The digits of n.
+pub fn put_natural(pen: &mut Pen, n: u64)
+    requires { RoomFor pen.old (decimal n) }
+    ensures { pen.new ≡ wrote pen.old (decimal n) }
 {
-    let mut i: usize = 0;
-    while i < word.len() {
-        buf[at + i] = word[i];
-        i += 1;
-    }
-    at + i
-}
-
-// A short number without its sign.
-fn magnitude_of(z: i32) -> u64
-    requires { short z ≡ true }
-    ensures { result ≡ nat_abs z }
-{
-    if z < 0 {
-        return (0 - z) as u64;
-    }
-    z as u64
+    let at = pen.at;
+    pen.at = put_decimal(pen.buf, at, n);
 }
 
 // How many bytes a short number takes.
@@ -66,22 +43,23 @@ pub fn numeral_size(z: i32) -> usize
     requires { short z ≡ true }
     ensures { result ≡ length (numeral z) }
 {
-    let n = size_of(magnitude_of(z));
+    let n = size_of(z.unsigned_abs() as u64);
     if z < 0 {
         return 1 + n;
     }
     n
 }
 
-// A short number from a place of the buffer on; the place behind it.
-pub fn put_number(buf: &mut [u8], at: usize, z: i32) -> usize
-    requires { (short z ≡ true) × (at + length (numeral z) ≤ length buf.old) }
-    ensures { Put buf.old at (numeral z) buf.new result }
+// A number, which may be below 0.
+pub fn put_number(pen: &mut Pen, z: i32)
+    requires { RoomFor pen.old (numeral z) }
+    ensures { pen.new ≡ wrote pen.old (numeral z) }
 {
-    let n = magnitude_of(z);
+    let n = z.unsigned_abs() as u64;
     if z < 0 {
-        buf[at] = b'-';
-        return put_decimal(buf, at + 1, n);
+        pen.put_byte(b'-');
+        put_natural(pen, n);
+        return;
     }
-    put_decimal(buf, at, n)
+    put_natural(pen, n);
 }

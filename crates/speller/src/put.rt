@@ -1,68 +1,68 @@
-// Lines, put into a buffer at a place.
-ghost use Rattle.std.specs.Prelude.{◌≡◌, true, [], ◌+◌, ◌≤◌, pos, length};
-ghost use Rattle.decimal.specs.Numerals.{short};
-ghost use Rattle.lists.specs.inner.Stores.{Put};
+// Lines, written by a pen.
+#![tactic(auto, using(pens::proofs::Pens::writing))]
+
+ghost use Rattle.std.specs.Prelude.{◌≡◌, [], pos};
 ghost use Rattle.line.specs.declared.Line.TheVariants.{Plan, Layer, Rectangle};
-ghost use Rattle.line.specs.Lines.{put_field, spell_to, short_rect};
+ghost use Rattle.line.specs.Lines.{put_field, spell_to};
+ghost use Rattle.pens.specs.Pens.{RoomFor, wrote};
 
-use crate::numbers::{put_decimal, put_number, put_word};
+use crate::numbers::{put_natural, put_number};
 use geometry::Rect;
+use pens::Pen;
 
-// The PLAN line of k; the place behind it.
-pub fn put_plan_line(buf: &mut [u8], at: usize, k: u32) -> usize
-    requires { at + length (spell_to (Plan (pos k)) []) ≤ length buf.old }
-    ensures { Put buf.old at (spell_to (Plan (pos k)) []) buf.new result }
+// The PLAN line of k.
+pub fn put_plan_line(pen: &mut Pen, k: u32)
+    requires { RoomFor pen.old (spell_to (Plan (pos k)) []) }
+    ensures { pen.new ≡ wrote pen.old (spell_to (Plan (pos k)) []) }
 {
-    let a = put_word(buf, at, b"PLAN\t");
-    put_count(buf, a, k, b'\n')
+    pen.put(b"PLAN\t");
+    put_count(pen, k, b'\n');
 }
 
-// The LAYER line of a size and a margin; the place behind it.
-pub fn put_layer_line(buf: &mut [u8], at: usize, n: u32, margin: u32) -> usize
-    requires { at + length (spell_to (Layer (pos n) (pos margin)) []) ≤ length buf.old }
-    ensures { Put buf.old at (spell_to (Layer (pos n) (pos margin)) []) buf.new result }
+// The LAYER line of a size and a margin.
+pub fn put_layer_line(pen: &mut Pen, n: u32, margin: u32)
+    requires { RoomFor pen.old (spell_to (Layer (pos n) (pos margin)) []) }
+    ensures { pen.new ≡ wrote pen.old (spell_to (Layer (pos n) (pos margin)) []) }
 {
-    let a = put_word(buf, at, b"LAYER\t");
-    let b = put_count(buf, a, n, b'\t');
-    put_count(buf, b, margin, b'\n')
+    pen.put(b"LAYER\t");
+    put_count(pen, n, b'\t');
+    put_count(pen, margin, b'\n');
 }
 
-// The RECT line of a rectangle; the place behind it.
-pub fn put_rect_line(buf: &mut [u8], at: usize, r: Rect) -> usize
-    requires { (short_rect r ≡ true) × (at + length (spell_to (Rectangle r) []) ≤ length buf.old) }
-    ensures { Put buf.old at (spell_to (Rectangle r) []) buf.new result }
+// The RECT line of a rectangle.
+pub fn put_rect_line(pen: &mut Pen, r: Rect)
+    requires { RoomFor pen.old (spell_to (Rectangle r) []) }
+    ensures { pen.new ≡ wrote pen.old (spell_to (Rectangle r) []) }
 {
-    let a = put_word(buf, at, b"RECT\t");
-    let b = put_corner(buf, a, r.left, r.bottom, b'\t');
-    put_corner(buf, b, r.right, r.top, b'\n')
+    pen.put(b"RECT\t");
+    put_corner(pen, r.left, r.bottom, b'\t');
+    put_corner(pen, r.right, r.top, b'\n');
 }
 
-// A number that is not below 0, and the byte that ends its field; the place behind it.
-fn put_count(buf: &mut [u8], at: usize, n: u32, e: u8) -> usize
-    requires { at + length (put_field (pos n) e []) ≤ length buf.old }
-    ensures { Put buf.old at (put_field (pos n) e []) buf.new result }
+// A number that is not below 0, and the byte that ends its field.
+#[tactic(auto, using(pens::proofs::Pens::writing), unfolding(decimal::specs::Numerals::numeral))]
+fn put_count(pen: &mut Pen, n: u32, end: u8)
+    requires { RoomFor pen.old (put_field (pos n) end []) }
+    ensures { pen.new ≡ wrote pen.old (put_field (pos n) end []) }
 {
-    let next = put_decimal(buf, at, n as u64);
-    buf[next] = e;
-    next + 1
+    put_natural(pen, n as u64);
+    pen.put_byte(end);
 }
 
-// The two fields of a corner, the second ended by the byte e; the place behind them.
-fn put_corner(buf: &mut [u8], at: usize, x: i32, y: i32, e: u8) -> usize
-    requires x_value { (short x ≡ true) × (short y ≡ true) }
-    requires e_in_bounds { at + length (put_field x 9 (put_field y e [])) ≤ length buf.old }
-    ensures { Put buf.old at (put_field x 9 (put_field y e [])) buf.new result }
+// The two fields of a corner, the second ended by the byte `end`.
+fn put_corner(pen: &mut Pen, x: i32, y: i32, end: u8)
+    requires { RoomFor pen.old (put_field x 9 (put_field y end [])) }
+    ensures { pen.new ≡ wrote pen.old (put_field x 9 (put_field y end [])) }
 {
-    let next = put_field(buf, at, x, b'\t');
-    put_field(buf, next, y, e)
+    put_field(pen, x, b'\t');
+    put_field(pen, y, end);
 }
 
-// A number and the byte that ends its field; the place behind it.
-fn put_field(buf: &mut [u8], at: usize, z: i32, e: u8) -> usize
-    requires { (short z ≡ true) × (at + length (put_field z e []) ≤ length buf.old) }
-    ensures { Put buf.old at (put_field z e []) buf.new result }
+// A number and the byte that ends its field.
+fn put_field(pen: &mut Pen, z: i32, end: u8)
+    requires { RoomFor pen.old (put_field z end []) }
+    ensures { pen.new ≡ wrote pen.old (put_field z end []) }
 {
-    let next = put_number(buf, at, z);
-    buf[next] = e;
-    next + 1
+    put_number(pen, z);
+    pen.put_byte(end);
 }

@@ -17,8 +17,7 @@ use Rattle.lists.specs.inner.Stores.{Put}
 use Rattle.lists.proofs.Stores.{put-start}
 use Rattle.survey.specs.declared.Corners.{Corners}
 use Rattle.survey.specs.declared.Strip.{Strip}
-use Rattle.survey.specs.declared.Covering.{Covering}
-use Rattle.survey.specs.declared.Covering.TheVariants.{Kept, Refused}
+use Rattle.std.specs.Prelude.{Result, Ok, Err}
 use Rattle.survey.specs.Strips.{sound_strip}
 use Rattle.survey.specs.Records.{records, all_sound, cover_cells}
 use Rattle.survey.specs.CoverCall.{input_cause, kept, cover_cause, layer_of, cover_answer, cover_after, cover_values}
@@ -51,17 +50,17 @@ module _ (across upward : Strip) (corners : List Float) where
 
   -- ---- the whole call
   module _ (cells : List ℤ) where
-    abbrev Answered : Covering → List ℤ → Type 0
+    abbrev Answered : Result ℕ ℕ → List ℤ → Type 0
     Answered r after =
         let told = cover_answer across upward corners (length cells) in
         (r ≡ told) × ((cover_values r ≡ cover_values told) × (((cover_values r).number ≡ cover_cause across upward corners (length cells)) × (after ≡ cover_after across upward corners cells)))
 
-    refused : (cause : ℕ) → (cause ≡ 0 → ⊥) → cover_cause across upward corners (length cells) ≡ cause → Answered (Refused cause) cells
+    refused : (cause : ℕ) → (cause ≡ 0 → ⊥) → cover_cause across upward corners (length cells) ≡ cause → Answered (Err cause) cells
     unfolding cover_answer cover_after
     refused zero n e = absurd (n refl)
     refused (suc cause) n e = rw e (refl, (refl, (refl, refl)))
 
-    pub input-bad : (cause : ℕ) → (cause ≡ 0 → ⊥) → cause ≡ input_cause across upward corners → Answered (Refused cause) cells
+    pub input-bad : (cause : ℕ) → (cause ≡ 0 → ⊥) → cause ≡ input_cause across upward corners → Answered (Err cause) cells
     unfolding cover_cause
     input-bad zero n e = absurd (n refl)
     input-bad (suc cause) n e = refused (suc cause) n (rw (sym e))
@@ -73,11 +72,11 @@ module _ (across upward : Strip) (corners : List Float) where
           let h = or-else-zero (unless (sound_strip across && sound_strip upward) 21) _ (sym good) in
           (both (eqb (length corners % 4) 0) (all_sound (records corners)) (unless-zero _ 19 h.1)).1
 
-      pub too_many : most_size < n → Answered (Refused 2) cells
+      pub too_many : most_size < n → Answered (Err 2) cells
       unfolding cover_cause
       too_many h = refused 2 (λ z. omega arith) (rw (sym good, sym counted, lt-leb n most_size h))
 
-      pub too_few : n ≤ most_size → length cells < 4 * n → Answered (Refused 11) cells
+      pub too_few : n ≤ most_size → length cells < 4 * n → Answered (Err 11) cells
       unfolding cover_cause
       too_few h k = refused 11 (λ z. omega arith) (rw (sym good, sym counted, le-leb n most_size h, lt-leb (4 * n) (length cells) k))
 
@@ -85,7 +84,7 @@ module _ (across upward : Strip) (corners : List Float) where
         pub layer_fits : LayerFits across upward corners cells
         layer_fits = record { sound = records-good; room = omega (arith, cells-long (kept across upward corners)) }
 
-        pub covered : (last : List ℤ) (r : ℕ) → Put cells 0 (layer_of across upward corners) last r → Answered (Kept n) last
+        pub covered : (last : List ℤ) (r : ℕ) → Put cells 0 (layer_of across upward corners) last r → Answered (Ok n) last
         unfolding cover_cause cover_answer cover_after
         covered last r p =
             let e : cover_cause across upward corners (length cells) ≡ 0 = rw (sym good, sym counted, le-leb n most_size few, le-leb (4 * n) (length cells) room) in

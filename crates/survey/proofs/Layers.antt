@@ -24,7 +24,7 @@ use Rattle.plan.proofs.Theorems.{plan-passed}
 use Rattle.survey.specs.declared.Corners.{Corners}
 use Rattle.survey.specs.declared.Strip.{Strip}
 use Rattle.survey.specs.Records.{corners_at, records, cover_of, sound_record, all_sound, kept_by, cover_cells}
-use Rattle.survey.specs.declared.Covering.TheVariants.{Refused}
+use Rattle.std.specs.Prelude.{Err}
 use Rattle.survey.specs.CoverCall.{kept, cover_cause, layer_of, cover_answer, cover_after}
 use Rattle.survey.specs.Theorems.{GoodLayer, CoverAccepted}
 use Rattle.survey.proofs.Records.{all-sound→}
@@ -93,7 +93,7 @@ module _ (across upward : Strip) (corners : List Float) (cells : List ℤ) (e : 
       }
 
 pub refused-is : (across upward : Strip) (corners : List Float) (cells : List ℤ) (n : ℕ) → cover_cause across upward corners (length cells) ≡ suc n
-    → (cover_answer across upward corners (length cells) ≡ Refused (suc n)) × (cover_after across upward corners cells ≡ cells)
+    → (cover_answer across upward corners (length cells) ≡ Err (suc n)) × (cover_after across upward corners cells ≡ cells)
 unfolding cover_answer cover_after
 refused-is across upward corners cells n e = rw e (refl, refl)
 

@@ -1,13 +1,11 @@
 -- What the call answers (02, Q-9): "The kept records' covers form a layer, in their order, in the first cells of a lent buffer; the other cells keep their
 -- contents, and the number kept is returned."
-use Rattle.std.specs.Prelude.{List, ◌++◌, ◌&&◌, ℕ, ◌*◌, ◌%◌, eqb, leb, ℤ, length, drop, Float}
+use Rattle.std.specs.Prelude.{List, ◌++◌, ◌&&◌, ℕ, ◌*◌, ◌%◌, eqb, leb, ℤ, length, drop, Float, Result, Ok, Err}
 use Rattle.lists.specs.Lists.{keep}
 use Rattle.plan.specs.Causes.{unless, ◌or_else◌, on_cause}
 use Rattle.plan.specs.Limits.{most_size}
 use Rattle.survey.specs.declared.Corners.{Corners}
 use Rattle.survey.specs.declared.Strip.{Strip}
-use Rattle.survey.specs.declared.Covering.{Covering}
-use Rattle.survey.specs.declared.Covering.TheVariants.{Kept, Refused}
 use Rattle.survey.specs.Strips.{sound_strip}
 use Rattle.survey.specs.Records.{records, all_sound, kept_by, cover_cells}
 
@@ -28,9 +26,9 @@ module _ (across upward : Strip) (corners : List Float) where
   abbrev pub layer_of : List ℤ
   layer_of = cover_cells kept
 
-  -- what the call answers
-  unfoldable pub cover_answer : ℕ → Covering
-  cover_answer room = on_cause (cover_cause room) (Kept (length kept)) Refused
+  -- what the call answers: how many are kept
+  unfoldable pub cover_answer : ℕ → Result ℕ ℕ
+  cover_answer room = on_cause (cover_cause room) (Ok (length kept)) Err
 
   -- the lent cells afterwards; a refusal keeps all
   unfoldable pub cover_after : List ℤ → List ℤ
@@ -41,6 +39,6 @@ pub record CoverValues : Type 0 where
   pub number : ℕ
   pub kept : ℕ
 
-abbrev pub cover_values : Covering → CoverValues
-cover_values (Kept n) = record { number = 0; kept = n }
-cover_values (Refused cause) = record { number = cause; kept = 0 }
+abbrev pub cover_values : Result ℕ ℕ → CoverValues
+cover_values (Ok n) = record { number = 0; kept = n }
+cover_values (Err cause) = record { number = cause; kept = 0 }

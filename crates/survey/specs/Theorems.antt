@@ -1,5 +1,5 @@
 -- Theorem: what is promised of covers, of strips and of the call, for all strips and corners. Proved in proofs/Theorems.antt.
-use Rattle.std.specs.Prelude.{◌≡◌, true, ◌↔◌, ℕ, suc, ◌+◌, ◌*◌, ◌/◌, ◌≤◌, ◌<◌, ℤ, pos, neg_ℤ, ◌≤ℤ◌, T, length, get_or, drop, Float}
+use Rattle.std.specs.Prelude.{◌≡◌, true, ◌↔◌, ℕ, suc, ◌+◌, ◌*◌, ◌/◌, ◌≤◌, ◌<◌, ℤ, pos, neg_ℤ, ◌≤ℤ◌, T, length, get_or, drop, Float, Result, Ok, Err}
 use mathlib.Core.List.{List, [], ◌∷◌, ◌++◌, map, flat_map, Memᴰ}
 use Rattle.std.specs.Float.{nan, binary64}
 use Rattle.std.specs.Float.Ieee.{of_bits}
@@ -15,8 +15,6 @@ use Rattle.floats.specs.Theorems.{Finite, AtMost}
 use Rattle.survey.specs.declared.Corners.{Corners}
 use Rattle.survey.specs.declared.Strip.{Strip}
 use Rattle.survey.specs.declared.Strip.TheVariants.{Free, From, To, Between}
-use Rattle.survey.specs.declared.Covering.{Covering}
-use Rattle.survey.specs.declared.Covering.TheVariants.{Kept, Refused}
 use Rattle.survey.specs.Records.{corners_at, cover_of, cover_cells}
 use Rattle.survey.specs.CoverCall.{kept, cover_cause, cover_answer, cover_values, cover_after}
 
@@ -84,9 +82,9 @@ abbrev pub GoodLayer : List Corners → Type 0
 GoodLayer cs = (length cs ≤ 512) × (length (cover_cells cs) ≡ 4 * length cs) × AllIn (cover_cells cs)
 
 -- what an accepted call that keeps these records answers, and leaves in these cells
-pub record CoverAccepted (cs : List Corners) (cells : List ℤ) (answer : Covering) (after : List ℤ) : Type 0 where
+pub record CoverAccepted (cs : List Corners) (cells : List ℤ) (answer : Result ℕ ℕ) (after : List ℤ) : Type 0 where
   -- "the number kept is returned"
-  pub returned : answer ≡ Kept (length cs)
+  pub returned : answer ≡ Ok (length cs)
   -- "The kept records' covers form a layer, in their order, in the first cells of a lent buffer; the other cells keep their contents"
   pub layer : upto (rect_at after) 0 (length cs) ≡ map cover_of cs
   pub good : GoodLayer cs
@@ -104,14 +102,14 @@ module _ (across upward : Strip) (corners : List Float) (cs : List Corners) wher
         Memᴰ i places ↔ ((i < length corners / 4) × Meets across c.left c.right × Meets upward c.bottom c.top)
 
   -- a call with these strips and corners that keeps these records: its lent cells, its cause, its answer, and the cells afterwards
-  pub record CoverHolds (cells : List ℤ) (cause : ℕ) (answer : Covering) (after : List ℤ) : Type 0 where
+  pub record CoverHolds (cells : List ℤ) (cause : ℕ) (answer : Result ℕ ℕ) (after : List ℤ) : Type 0 where
     -- "Checks, 21 first", then 20, "then more than 512 kept, 2, and too few cells, 11"
     pub causes : Check 21 (SoundStops across × SoundStops upward) (Check 20 (Recorded corners)
         (Check 2 (length cs ≤ 512) (Check 11 (4 * length cs ≤ length cells) Passed))) cause
     pub kept : SoundStops across → SoundStops upward → Recorded corners → (places : List ℕ) × KeptAt places
     pub accepted : cause ≡ 0 → CoverAccepted cs cells answer after
     -- 01: "A refusal returns its number and 0 for all else", and the cells are as they were
-    pub refused : (n : ℕ) → cause ≡ suc n → (answer ≡ Refused (suc n)) × (after ≡ cells)
+    pub refused : (n : ℕ) → cause ≡ suc n → (answer ≡ Err (suc n)) × (after ≡ cells)
 
 pub record Surveys : Type 0 where
   -- the cover contains its record, no smaller one does, and no other rectangle is so
@@ -129,7 +127,7 @@ pub record Surveys : Type 0 where
       → let s : Shape = record { k = length layers; sizes = padded 6 (map length layers); margins = margins } in
       (2 ≤ s.k) × (s.k ≤ 6) → Bounded 50000 s.k s.margins → All GoodLayer layers → plan_cause s (flat_map cover_cells layers) ≡ 0
   -- the number and value of each answer
-  pub told : (n : ℕ) → (cover_values (Kept n) ≡ record { number = 0; kept = n }) × (cover_values (Refused n) ≡ record { number = n; kept = 0 })
+  pub told : (n : ℕ) → (cover_values (Ok n) ≡ record { number = 0; kept = n }) × (cover_values (Err n) ≡ record { number = n; kept = 0 })
   -- 02: "left, bottom, right, top", four a record
   pub corners : (s : List Float) (i : ℕ) → let at : ℕ → Float = λ j. get_or s (4 * i + j) nan in
       corners_at s i ≡ record { left = at 0; bottom = at 1; right = at 2; top = at 3 }

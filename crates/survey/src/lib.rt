@@ -19,10 +19,3 @@ pub enum Strip {
     To(f64),
     Between(f64, f64),
 }
-
-// What the call answers: how many records are kept, or a cause's number.
-#[derive(Clone, Copy)]
-pub enum Covering {
-    Kept(usize),
-    Refused(u32),
-}

@@ -25,26 +25,18 @@ pub fn sound_strip(s: Strip) -> bool
 fn in_order(low: f64, high: f64) -> bool
     ensures { result ≡ ordered low high }
 {
-    if !is_finite(low) {
-        return false;
-    }
-    if !is_finite(high) {
-        return false;
-    }
-    low <= high
+    is_finite(low) && is_finite(high) && low <= high
 }
 
-// Whether 20 applies to none of the records.
+// Whether 20 applies to none of the records. A `for`: of `(0..n).all(..)` with a call in its closure the search does not find what the answer says.
 pub fn all_sound(corners: &[f64]) -> bool
     ensures { result ≡ all_sound (records corners.now) }
 {
     let n = corners.len() / 4;
-    let mut i = 0;
-    while i < n {
+    for i in 0..n {
         if !is_sound(record_at(corners, i)) {
             return false;
         }
-        i += 1;
     }
     true
 }
@@ -53,26 +45,14 @@ pub fn all_sound(corners: &[f64]) -> bool
 fn is_sound(c: Corners) -> bool
     ensures { result ≡ sound_record c }
 {
-    if !spans(c.left, c.right) {
-        return false;
-    }
-    if !spans(c.bottom, c.top) {
-        return false;
-    }
-    in_range(cover(c))
+    spans(c.left, c.right) && spans(c.bottom, c.top) && in_range(cover(c))
 }
 
 // Two floats in order that can be taken to 32 bits.
 fn spans(low: f64, high: f64) -> bool
     ensures { result ≡ spanned low high }
 {
-    if !is_near(low) {
-        return false;
-    }
-    if !is_near(high) {
-        return false;
-    }
-    low <= high
+    is_near(low) && is_near(high) && low <= high
 }
 
 // The smallest whole rectangle that contains the record.

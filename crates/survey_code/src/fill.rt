@@ -16,11 +16,9 @@ pub fn put_kept(across: Strip, upward: Strip, corners: &[f64], cells: &mut [i32]
 {
     let n = corners.len() / 4;
     let mut at: usize = 0;
-    let mut i = 0;
-    while i < n {
+    for i in 0..n {
         let c = record_at(corners, i);
         at = put_if_kept(across, upward, c, cells, at);
-        i += 1;
     }
     at
 }

@@ -1,5 +1,5 @@
 // Which records are kept, and how many.
-ghost use Rattle.std.specs.Prelude.{◌≡◌, cond, ◌≤◌, length};
+ghost use Rattle.std.specs.Prelude.{◌≡◌, length};
 ghost use Rattle.survey.specs.Strips.{meets_strip};
 ghost use Rattle.survey.specs.Records.{kept_by};
 ghost use Rattle.survey.specs.CoverCall.{kept};
@@ -13,28 +13,17 @@ pub fn count_kept(across: Strip, upward: Strip, corners: &[f64]) -> usize
 {
     let n = corners.len() / 4;
     let mut k = 0;
-    let mut i = 0;
-    while i < n {
-        k += one_if(is_kept(across, upward, record_at(corners, i)));
-        i += 1;
+    for i in 0..n {
+        k += usize::from(is_kept(across, upward, record_at(corners, i)));
     }
     k
-}
-
-fn one_if(kept: bool) -> usize
-    ensures { (result ≡ cond kept 1 0) × (result ≤ 1) }
-{
-    if kept { 1 } else { 0 }
 }
 
 // Whether the record's extent meets both strips.
 pub fn is_kept(across: Strip, upward: Strip, c: Corners) -> bool
     ensures { result ≡ kept_by across upward c }
 {
-    if meets_strip(across, c.left, c.right) {
-        return meets_strip(upward, c.bottom, c.top);
-    }
-    false
+    meets_strip(across, c.left, c.right) && meets_strip(upward, c.bottom, c.top)
 }
 
 // Whether the closed extent from low to high meets the strip.
@@ -45,6 +34,6 @@ fn meets_strip(s: Strip, low: f64, high: f64) -> bool
         Strip::Free => true,
         Strip::From(a) => a <= high,
         Strip::To(b) => low <= b,
-        Strip::Between(a, b) => { if a <= high { low <= b } else { false } }
+        Strip::Between(a, b) => a <= high && low <= b,
     }
 }

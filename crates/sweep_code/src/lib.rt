@@ -5,30 +5,26 @@ mod order;
 
 ghost use Rattle.std.specs.Prelude.{◌≡◌, length};
 ghost use Rattle.lists.specs.Lists.{same};
-ghost use Rattle.plan.specs.Causes.{unless};
+ghost use Rattle.plan.specs.Causes.{refusal, by_number, unless};
 ghost use Rattle.plan.specs.Plan.{count, grown, Sound};
 ghost use Rattle.sweep.specs.Sweep.{sweep_order, order_cause, make_cause, order_answer, order_number, order_after};
 
 pub use order::is_order;
-use plan::{MOST_CELLS, Shape};
-use plan_code::{grown_cells, is_drawn, plan_cause};
-use sweep::OrderAnswer;
+use plan::{Cause, MOST_CELLS, Shape};
+use plan_code::{check_plan, grown_cells, is_drawn};
 
 // Makes the sweep order of a plan in a lent buffer, or tells why not.
-pub fn make_order(shape: Shape, cells: &[i32], order: &mut [u32]) -> OrderAnswer
-    ensures answer { result ≡ order_answer (make_cause shape cells.now order.old) }
-    ensures number { order_number result ≡ make_cause shape cells.now order.old }
+pub fn make_order(shape: Shape, cells: &[i32], order: &mut [u32]) -> Result<(), Cause>
+    ensures answer { by_number result ≡ order_answer (make_cause shape cells.now order.old) }
+    ensures number { order_number (by_number result) ≡ make_cause shape cells.now order.old }
     ensures buffer { order.new ≡ order_after shape cells.now order.old }
 {
-    let cause = plan_cause(shape, cells);
-    if cause != 0 {
-        return OrderAnswer::Refused(cause);
-    }
+    check_plan(shape, cells)?;
     if order.len() != cells.len() / 4 {
-        return OrderAnswer::Refused(8);
+        return Err(Cause::WrongOrderLength);
     }
     fill_order(shape, cells, order);
-    OrderAnswer::Made
+    Ok(())
 }
 
 // Makes the sweep order of a sound plan: of its cells as drawn, where no layer has a margin, or of a copy that is grown.
@@ -45,25 +41,25 @@ fn fill_order(shape: Shape, cells: &[i32], order: &mut [u32])
     order::fill(grown, order);
 }
 
-// The first of the causes 1 2 17 3 4 5 that applies to a plan and an order, or 0.
-pub fn order_cause(shape: Shape, cells: &[i32], order: &[u32]) -> u32
-    ensures { result ≡ order_cause shape cells.now order.now }
+// The first of the causes 1 2 17 3 4 5 that applies to a plan and an order.
+pub fn check_order(shape: Shape, cells: &[i32], order: &[u32]) -> Result<(), Cause>
+    ensures { refusal result ≡ order_cause shape cells.now order.now }
 {
-    let cause = plan_cause(shape, cells);
-    if cause != 0 {
-        return cause;
-    }
+    check_plan(shape, cells)?;
     if is_drawn(shape) {
-        return cause_over(cells, order);
+        return check_over(cells, order);
     }
     let mut run = [0i32; MOST_CELLS];
     let grown = grown_cells(shape, cells, &mut run);
-    cause_over(grown, order)
+    check_over(grown, order)
 }
 
-// 5, or 0 where the order is that of the grown cells.
-fn cause_over(grown: &[i32], order: &[u32]) -> u32
-    ensures { result ≡ unless (same order.now (sweep_order grown.now)) 5 }
+// 5 applies, unless the order is that of the grown cells.
+fn check_over(grown: &[i32], order: &[u32]) -> Result<(), Cause>
+    ensures { refusal result ≡ unless (same order.now (sweep_order grown.now)) 5 }
 {
-    if is_order(grown, order) { 0 } else { 5 }
+    if !is_order(grown, order) {
+        return Err(Cause::WrongOrder);
+    }
+    Ok(())
 }

@@ -12,7 +12,7 @@ use Rattle.sweep.proofs.Theorems.{order-passed}
 use Rattle.windows.specs.HoursCall.{hours_cause}
 use Rattle.totals.specs.Totals.{total_of, value_of}
 use Rattle.totals.proofs.Totals.{value-total}
-use Rattle.paging.specs.declared.Run.{Run}
+use Rattle.paging.specs.Answers.{Run}
 use Rattle.paging.specs.Overlays.{overlay}
 use Rattle.paging.specs.Pages.{room}
 use Rattle.paging.specs.Calls.{run_cause, run_call, run_table, run_values}

@@ -3,7 +3,7 @@ use mathlib.Core.Path.{◌≡◌, refl, sym, ap, ap₂, ◌∙◌}
 use mathlib.Core.List.{List, [], ◌∷◌}
 use mathlib.Core.Option.{Option, none, some}
 use mathlib.Core.Bool.{Bool, true, false, cond}
-use Prim.Native.Nat.{ℕ, zero, suc, ◌*◌, ◌≤◌, ◌<◌}
+use Prim.Native.Nat.{ℕ, ◌*◌, ◌≤◌, ◌<◌}
 use native.Mathlib.Omega.{arith}
 use lib.Dec.{T, leb}
 use lib.IntN.{ℤ, pos, negsuc, nat_abs}
@@ -15,7 +15,6 @@ use Rattle.plan.specs.Causes.{unless, ◌or_else◌}
 use Rattle.line.specs.declared.Line.{Line}
 use Rattle.line.specs.declared.Line.TheVariants.{Plan, Layer, Rectangle}
 use Rattle.text.specs.declared.Tally.{Tally}
-use Rattle.text.specs.declared.Decision.{Decision}
 use Rattle.text.specs.Spelling.{inner, all_inner}
 use Rattle.line.specs.Parsing.{next, line}
 use Rattle.text.specs.Parsing.{all_lines, lines_of}
@@ -23,7 +22,7 @@ use Rattle.text.specs.Plans.{cells_in, shape_in, agrees}
 use Rattle.text.specs.Reader.{lines_cause, read_cause, text_shape, text_cells}
 use Rattle.line.specs.Places.{Line-at}
 use Rattle.text.specs.inner.Counting.{none_yet, unformed, add_layer, add_rect, add_lines, add_if, tally_from, tally_cause}
-use Rattle.text.specs.inner.Filling.{rest_cells, refused_by, Decided}
+use Rattle.text.specs.inner.Filling.{rest_cells, Taken}
 use Rattle.text.proofs.Parsing.{only, first_then, first-none}
 use Rattle.text.proofs.Counting.{few-none, few-lines}
 use Rattle.text.proofs.Sound.{counted-cells}
@@ -44,14 +43,10 @@ refused-by room (some ls) h = go (agrees ls) h
     go true k = absurd (k refl)
     go false k = refl
 
-decided-no : (s : List ℕ) (room cause : ℕ) (d : Decision) → (cause ≡ 0 → ⊥) → read_cause room s ≡ cause → d ≡ refused_by cause → Decided s room d
-decided-no s room zero d n e q = absurd (n refl)
-decided-no s room (suc cause) d n e q = rw q (record { answer = rw e; room = λ z. absurd (omega arith); cells = λ z. absurd (omega arith) })
-
 -- 9 or 10
-pub refused-form : (s : List ℕ) (room cause : ℕ) (d : Decision) → (cause ≡ 0 → ⊥) → cause ≡ form_cause (lines_of s) → d ≡ refused_by cause → Decided s room d
+pub refused-form : (s : List ℕ) (room cause : ℕ) → (cause ≡ 0 → ⊥) → cause ≡ form_cause (lines_of s) → cause ≡ read_cause room s
 unfolding read_cause
-refused-form s room cause d n e q = decided-no s room cause d n (refused-by room (lines_of s) (λ z. n (e ∙ z)) ∙ sym e) q
+refused-form s room cause n e = e ∙ sym (refused-by room (lines_of s) (λ z. n (e ∙ z)))
 
 -- ---- the first line
 unformed-lines : (t : Tally) (ls : List Line) → all_inner ls ≡ false → add_lines t ls ≡ unformed
@@ -175,14 +170,13 @@ module _ (s : List ℕ) (k : ℤ) (i : ℕ) (p : Line-at s 0 (Plan k) i) where
 
 -- ---- 11, or the plan
 module _ (s : List ℕ) (k : ℤ) (i room : ℕ) (t : Tally) (a : Accepted s k i t) where
-  pub refused-room : (d : Decision) → room < 4 * t.rects → d ≡ refused_by 11 → Decided s room d
-  refused-room d h q = decided-no s room 11 d (λ z. omega arith) (a.cause room ∙ rw (lt-leb (4 * t.rects) room h)) q
+  pub refused-room : room < 4 * t.rects → 11 ≡ read_cause room s
+  refused-room h = sym (a.cause room ∙ rw (lt-leb (4 * t.rects) room h))
 
-  pub taken : i ≤ length s → 4 * t.rects ≤ room → Decided s room (record { reading = record { number = 0; shape = record { k = nat_abs k; sizes = t.sizes; margins = t.margins } }; next = i })
-  taken j h =
-      let e : read_cause room s ≡ 0 = a.cause room ∙ rw (le-leb (4 * t.rects) room h) in
-      record {
-        answer = rw (e, a.shape);
-        room = λ z. record { inside = j; formed = a.formed; fits = omega (arith, ap length a.rest, a.cells) };
-        cells = λ z. a.rest;
-      }
+  pub taken : i ≤ length s → 4 * t.rects ≤ room → Taken s room (record { shape = record { k = nat_abs k; sizes = t.sizes; margins = t.margins }; next = i })
+  taken j h = record {
+    passed = a.cause room ∙ rw (le-leb (4 * t.rects) room h);
+    shape = a.shape;
+    room = record { inside = j; formed = a.formed; fits = omega (arith, ap length a.rest, a.cells) };
+    cells = a.rest;
+  }

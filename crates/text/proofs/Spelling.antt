@@ -1,10 +1,10 @@
--- Laws of lines that are spelled, and put, one behind the other.
+-- Laws of lines that are spelled, and written, one behind the other.
 use mathlib.Core.Path.{◌≡◌, refl, sym, ap, ◌∙◌, subst}
 use mathlib.Core.List.{List, [], ◌∷◌, ◌++◌, append_assoc}
-use Prim.Native.Nat.{ℕ, ◌+◌, ◌≤◌}
-use lib.ListN.{length}
-use Rattle.lists.specs.inner.Stores.{Put}
-use Rattle.lists.proofs.Stores.{Joined, Left, left-put, left-room}
+use Prim.Native.Nat.{ℕ}
+use Rattle.pens.specs.declared.Pen.{Pen}
+use Rattle.pens.specs.Pens.{RoomFor, wrote}
+use Rattle.pens.proofs.Pens.{Due, due-room, due-then}
 use Rattle.line.specs.declared.Line.{Line}
 use Rattle.line.specs.Lines.{spell_to}
 use Rattle.line.proofs.Lines.{spell-front}
@@ -18,16 +18,13 @@ pub spell-++ : (ls ms : List Line) → spell (ls ++ ms) ≡ spell ls ++ spell ms
 spell-++ [] ms = refl
 spell-++ (l ∷ ls) ms = ap (spell_to l) (spell-++ ls ms) ∙ line-then l (spell ls) (spell ms)
 
-pub lines-joined : (ls ms : List Line) → Joined (spell ls) (spell ms) (spell (ls ++ ms))
-lines-joined ls ms = record { joins = sym (spell-++ ls ms) }
+-- ---- lines that are left to be written
+module _ (first : Pen) (whole : List ℕ) (p : Pen) (ls ms : List Line) (d : Due first whole p (spell (ls ++ ms))) where
+  parts : Due first whole p (spell ls ++ spell ms)
+  parts = subst (λ (r : List ℕ). Due first whole p r) (spell-++ ls ms) d
 
--- ---- lines that are left to be put
-module _ (first : List ℕ) (start : ℕ) (whole buf : List ℕ) (at : ℕ) (ls ms : List Line) (l : Left first start whole buf at (spell (ls ++ ms))) where
-  parts : Left first start whole buf at (spell ls ++ spell ms)
-  parts = subst (λ (r : List ℕ). Left first start whole buf at r) (spell-++ ls ms) l
+  pub lines-room : RoomFor p (spell ls)
+  lines-room = due-room first whole p (spell ls) (spell ms) parts
 
-  pub left-lines : (last : List ℕ) (r : ℕ) → Put buf at (spell ls) last r → Left first start whole last r (spell ms)
-  left-lines last r p = left-put first start whole buf at (spell ls) (spell ms) last r p parts
-
-  pub lines-room : start + length whole ≤ length first → at + length (spell ls) ≤ length buf
-  lines-room h = left-room first start whole buf at (spell ls) (spell ms) h parts
+  pub lines-then : (q : Pen) → q ≡ wrote p (spell ls) → Due first whole q (spell ms)
+  lines-then q e = due-then first whole p (spell ls) (spell ms) q parts e

@@ -35,7 +35,7 @@ use Rattle.line.proofs.Theorems.{starts, started, old-line}
 use Rattle.text.specs.Spelling.{spell, inner, all_inner, headed, all_short}
 use Rattle.text.specs.Parsing.{lines_of}
 use Rattle.text.specs.Plans.{layer_lines, plan_lines, text_of, layer_sizes, layer_margins, cells_in, shape_in, rects_agree, well_counted, agrees}
-use Rattle.text.specs.Reader.{lines_cause, read_cause, text_shape, text_cells, read_answer, cells_after}
+use Rattle.text.specs.Reader.{lines_cause, read_cause, text_shape, text_cells, read_answer, read_values, cells_after}
 use Rattle.text.specs.Theorems.{Others, layer, rect, Formed, PlanText, RoundTrip}
 use Rattle.text.specs.Theorems as Theorems
 use Rattle.text.specs.Writer.{write_cause}
@@ -66,7 +66,7 @@ module _ (s : Shape) (plan : List ℤ) (sound : Sound s plan) where
   cells-back = rw lines-back (plan-cells s plan sound)
 
   back : (cells : List ℤ) → length plan ≤ length cells
-      → (read_answer (length cells) (text_of s plan) ≡ record { number = 0; shape = s }) × (cells_after (text_of s plan) cells ≡ plan ++ drop (length plan) cells)
+      → (read_values (read_answer (length cells) (text_of s plan)) ≡ record { number = 0; shape = s }) × (cells_after (text_of s plan) cells ≡ plan ++ drop (length plan) cells)
   back cells h =
       let e : read_cause (length cells) (text_of s plan) ≡ 0 = rw (text-cause (length cells), le-leb (length plan) (length cells) h) in
       (rw (e, shape-back), rw (e, cells-back))

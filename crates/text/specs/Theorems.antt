@@ -1,5 +1,5 @@
 -- Theorem: what is promised of plan texts, for every plan and every text. Proved in proofs/Theorems.antt.
-use Rattle.std.specs.Prelude.{◌≡◌, ◌↔◌, ℕ, suc, ◌≤◌, ℤ, pos, ◌≤ℤ◌, length, drop}
+use Rattle.std.specs.Prelude.{◌≡◌, ◌↔◌, ℕ, suc, ◌≤◌, ℤ, pos, ◌≤ℤ◌, length, drop, Ok, Err}
 use mathlib.Core.List.{List, [], ◌∷◌, ◌++◌, Memᴰ}
 use Rattle.geometry.specs.declared.Rect.{Rect}
 use Rattle.geometry.specs.Theorems.{Ranged}
@@ -11,10 +11,9 @@ use Rattle.decimal.specs.Theorems.{Spells}
 use Rattle.line.specs.declared.Line.{Line}
 use Rattle.line.specs.declared.Line.TheVariants.{Plan, Layer, Rectangle}
 use Rattle.line.specs.Theorems.{Starts}
-use Rattle.text.specs.declared.Writing.TheVariants.{Written, Refused}
 use Rattle.text.specs.Plans.{text_of}
 use Rattle.text.specs.Writer.{write_cause, write_answer, number_said, length_of, buffer_after}
-use Rattle.text.specs.Reader.{read_cause, read_answer, cells_after}
+use Rattle.text.specs.Reader.{read_cause, read_answer, read_values, cells_after}
 
 -- ---- well formed, in bytes: which bytes are a line is said by `Starts` (crate line)
 -- LAYER and RECT lines, one behind the other
@@ -57,15 +56,15 @@ pub record TextHolds (room : ℕ) (t : List ℕ) : Type 0 where
 pub record PlanHolds (s : Shape) (plan : List ℤ) (t : List ℕ) : Type 0 where
   -- reading its text gives exactly this plan back, in the first cells, and keeps the others
   pub back : (cells : List ℤ) → Sound s plan → length plan ≤ length cells
-      → (read_answer (length cells) t ≡ record { number = 0; shape = s }) × (cells_after t cells ≡ plan ++ drop (length plan) cells)
+      → (read_values (read_answer (length cells) t) ≡ record { number = 0; shape = s }) × (cells_after t cells ≡ plan ++ drop (length plan) cells)
   -- the writer's causes: a plan's, then 12, "text longer than the buffer"
   pub causes : (room : ℕ) → PlanChecks s plan (Check 12 (length t ≤ room) Passed) (write_cause s plan room)
   -- "puts the one text of a plan at the start of its buffer, returns the length and keeps the rest"
   pub written : (buf : List ℕ) → write_cause s plan (length buf) ≡ 0
-      → (write_answer s plan (length buf) ≡ Written (length t)) × (buffer_after s plan buf ≡ t ++ drop (length t) buf)
+      → (write_answer s plan (length buf) ≡ Ok (length t)) × (buffer_after s plan buf ≡ t ++ drop (length t) buf)
   -- a refusal keeps the buffer
   pub refused : (buf : List ℕ) (n : ℕ) → write_cause s plan (length buf) ≡ suc n
-      → (write_answer s plan (length buf) ≡ Refused (suc n)) × (buffer_after s plan buf ≡ buf)
+      → (write_answer s plan (length buf) ≡ Err (suc n)) × (buffer_after s plan buf ≡ buf)
   -- no text of a plan is longer
   pub longest : Sound s plan → length t ≤ 138343
 
@@ -75,7 +74,7 @@ pub record RoundTrip : Type 0 where
   -- "A refusal returns its number and 0 for all else": k, the six sizes and the six margins; the cells are as they were
   pub refused : (t : List ℕ) (cells : List ℤ) (n : ℕ) → let zeros : List ℕ = 0 ∷ 0 ∷ 0 ∷ 0 ∷ 0 ∷ 0 ∷ [] in
       read_cause (length cells) t ≡ suc n
-      → (read_answer (length cells) t ≡ record { number = suc n; shape = record { k = 0; sizes = zeros; margins = zeros } })
+      → (read_values (read_answer (length cells) t) ≡ record { number = suc n; shape = record { k = 0; sizes = zeros; margins = zeros } })
       × (cells_after t cells ≡ cells)
   -- the number and the length that the writer's answers stand for
-  pub values : (n : ℕ) → (number_said (Written n) ≡ 0) × (length_of (Written n) ≡ n) × (number_said (Refused n) ≡ n) × (length_of (Refused n) ≡ 0)
+  pub values : (n : ℕ) → (number_said (Ok n) ≡ 0) × (length_of (Ok n) ≡ n) × (number_said (Err n) ≡ n) × (length_of (Err n) ≡ 0)

@@ -15,23 +15,9 @@ pub struct Tally {
     pub margins: [u32; MOST_LAYERS],
 }
 
-// What the reader answers: a cause's number, or 0 and the plan's shape.
-#[derive(Clone, Copy)]
-pub struct Reading {
-    pub number: u32,
-    pub shape: Shape,
-}
-
-// What the reader's first pass decides, and the place behind the PLAN line.
+// What the reader's first pass finds in an accepted text: the plan's shape, and the place behind the PLAN line.
 #[derive(Clone, Copy)]
 pub struct Decision {
-    pub reading: Reading,
+    pub shape: Shape,
     pub next: usize,
-}
-
-// What the writer answers: the length of the text, or a cause's number.
-#[derive(Clone, Copy)]
-pub enum Writing {
-    Written(usize),
-    Refused(u32),
 }

@@ -8,12 +8,3 @@ pub struct Window {
     pub from: u32,
     pub to: u32,
 }
-
-// What the call for a row's shared minutes answers.
-#[derive(Clone, Copy)]
-pub enum HoursAnswer {
-    Refused(u32),
-    NoRow,
-    // The first shared minute, and the first after them.
-    Shared(u32, u32),
-}

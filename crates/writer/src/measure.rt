@@ -1,5 +1,5 @@
 // How many bytes a text takes, before it is written.
-ghost use Rattle.std.specs.Prelude.{◌≡◌, true, ◌*◌, ◌≤◌, length, take};
+ghost use Rattle.std.specs.Prelude.{◌≡◌, true, ◌*◌, ◌≤◌, length};
 ghost use Rattle.plan.specs.Limits.{most_rects};
 ghost use Rattle.plan.specs.Plan.{Sound};
 ghost use Rattle.text.specs.Spelling.{spell, all_short};
@@ -16,24 +16,20 @@ fn rects_size(cells: &[i32], n: usize) -> usize
     ensures { result ≡ length (spell (rect_lines cells.now)) }
 {
     let mut size: usize = 0;
-    let mut p: usize = 0;
-    while p < n {
+    for p in 0..n {
         size += rect_line_size(rect_at(cells, p));
-        p += 1;
     }
     size
 }
 
-// The length of the LAYER lines of the first k sizes and margins.
-fn layers_size<'a>(sizes: &'a [u32], margins: &'a [u32], k: usize) -> usize
-    requires { (k ≤ length sizes.now) × (k ≤ length margins.now) × (k ≤ 6) }
-    ensures { result ≡ layers_length (take k sizes.now) (take k margins.now) }
+// The length of the LAYER lines of sizes and margins.
+fn layers_size<'a>(sizes: &'a [u32], margins: &'a [u32]) -> usize
+    requires { (length margins.now ≡ length sizes.now) × (length sizes.now ≤ 6) }
+    ensures { result ≡ layers_length sizes.now margins.now }
 {
     let mut size: usize = 0;
-    let mut j: usize = 0;
-    while j < k {
-        size += layer_line_size(sizes[j], margins[j]);
-        j += 1;
+    for (j, n) in sizes.iter().enumerate() {
+        size += layer_line_size(*n, margins[j]);
     }
     size
 }
@@ -43,8 +39,8 @@ pub fn text_size(shape: Shape, cells: &[i32]) -> usize
     requires { Sound shape cells.now }
     ensures { result ≡ length (text_of shape cells.now) }
 {
-    let k = shape.k;
-    plan_line_size(k)
-        + layers_size(&shape.sizes, &shape.margins, k as usize)
+    let k = shape.k as usize;
+    plan_line_size(shape.k)
+        + layers_size(&shape.sizes[..k], &shape.margins[..k])
         + rects_size(cells, cells.len() / 4)
 }

@@ -2,7 +2,7 @@
 use mathlib.Core.Path.{ap, ap₂, ◌∙◌}
 use mathlib.Core.List.{List}
 use Rattle.paging.specs.declared.Ticket.{Ticket}
-use Rattle.rounds.specs.declared.Round.{Round}
+use Rattle.rounds.specs.Rounds.{RoundValues}
 use Rattle.rounds.specs.Rounds.{Request, round_call, round_counters, round_table}
 use Rattle.rounds.proofs.Theorems.{rounds-hold}
 use Rattle.c_cells.specs.Cells.{shape_of}
@@ -25,11 +25,11 @@ returns c =
     let told = c.round-told.ensures in
     let from = c.tickets_in.ensures in
     let round = told.0 ∙ ap (λ (t : List Ticket). round_call (ask t)) from in
-    let number = ap (λ (r : Round). r.number) round ∙ rounds-hold.number (ask (tickets_in c.args.tickets.now)) in (
+    let number = c.number_of-number.ensures ∙ ap (λ (r : RoundValues). r.number) round ∙ rounds-hold.number (ask (tickets_in c.args.tickets.now)) in (
       number,
-      ap (λ (r : Round). r.next) round,
-      c.round_cells.ensures ∙ ap (λ (r : Round). round_cells r.pages) round,
-      c.tickets_after.ensures ∙ ap₂ (tickets_after c.args.tickets.now c.args.m) number (ap (λ (r : Round). r.pages) round),
+      ap (λ (r : RoundValues). r.next) round,
+      c.round_cells.ensures ∙ ap (λ (r : RoundValues). round_cells r.pages) round,
+      c.tickets_after.ensures ∙ ap₂ (tickets_after c.args.tickets.now c.args.m) number (ap (λ (r : RoundValues). r.pages) round),
       told.1.0 ∙ ap (λ (t : List Ticket). round_counters (ask t)) from,
       told.1.1 ∙ ap (λ (t : List Ticket). round_table (ask t)) from,
     )

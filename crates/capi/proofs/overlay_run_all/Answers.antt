@@ -1,9 +1,20 @@
 -- `capi::overlay_run_all`: number and cells are those of the values.
-use mathlib.Core.Path.{ap, ◌∙◌}
-use Rattle.paging.specs.declared.Run.{Run}
+use mathlib.Core.Path.{◌≡◌, refl, ap, ◌∙◌}
+use Prim.Native.Nat.{ℕ}
+use Rattle.std.specs.Prelude.{Option, Some, None, Result, Ok, Err}
+use Rattle.plan.specs.declared.cause.Cause.{Cause}
+use Rattle.plan.specs.Causes.{refusal, by_number}
+use Rattle.paging.specs.declared.Done.{Done}
 use Rattle.paging.specs.Calls.{run_values}
 use Rattle.c_cells.specs.Cells.{run_cells}
 use Rattle.capi.proofs.overlay_run_all.Goals as goal
 
+-- the number of its refusal
+number : (r : Result Done Cause) → refusal r ≡ (run_values (by_number r)).number
+number (Ok a) = refl
+number (Err c) = refl
+
 pub returns : goal.returns
-returns c = (c.run_number.ensures ∙ ap (λ (r : Run). (run_values r).number) c.run_all-run.ensures.answer, c.run_cells.ensures ∙ ap (λ (r : Run). run_cells (run_values r)) c.run_all-run.ensures.answer, c.run_all-run.ensures.table, c.run_all-run.ensures.work)
+returns c =
+    let k = c.run_all-run.ensures in
+    (c.number_of.ensures ∙ number _ ∙ ap (λ (r : Result Done ℕ). (run_values r).number) k.answer, c.run_cells.ensures ∙ ap (λ (r : Result Done ℕ). run_cells (run_values r)) k.answer, k.table, k.work)

@@ -1,4 +1,4 @@
--- `crossings_code::is_segment`.
+-- `crossings_code::is_segment`: the numbers compare as they do.
 use borrow.Author.Rules.{rules}
 use mathlib.Core.Path.{◌∙◌}
 use Rattle.geometry.proofs.Machine.{Fitting}
@@ -6,14 +6,14 @@ use Rattle.crossings.specs.ClassCall.{lies}
 use Rattle.crossings.proofs.Reading.{read_same}
 use Rattle.crossings_code.proofs.is_segment.Goals as goal
 
-pub returns-then-level : goal.returns-then-level
+pub returns-in-Level : goal.returns-in-Level
 unfolding lies
-returns-then-level c =
-    let fits-r : Fitting c.args.r = search rules in
-    let f = fits-r in read_same f.bottom f.top c.is_same.ensures ∙ rw c.if-level.true
+returns-in-Level c =
+    let f : Fitting c.args.r = search rules in
+    read_same f.bottom f.top ∙ rw c.in-Level.is
 
-pub returns : goal.returns
+pub returns-in-Upright : goal.returns-in-Upright
 unfolding lies
-returns c =
-    let fits-r : Fitting c.args.r = search rules in
-    let f = fits-r in read_same f.left f.right c.is_same-2.ensures ∙ rw c.if-level.false
+returns-in-Upright c =
+    let f : Fitting c.args.r = search rules in
+    read_same f.left f.right ∙ rw c.in-Upright.is

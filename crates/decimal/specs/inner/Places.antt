@@ -1,10 +1,8 @@
 -- Numbers read from a place of a text, as the code does: what reading numbers promises reading lines (both in `lexer`); no public call's contract cites it.
-use Rattle.std.specs.Prelude.{◌≡◌, List, Bool, true, false, ℕ, ◌-◌, ◌^◌, ◌≤◌, ◌<◌, ℤ, pos, neg_ℤ, length, drop}
+use Rattle.std.specs.Prelude.{◌≡◌, List, Bool, true, false, ℕ, ◌-◌, ◌^◌, ◌≤◌, ◌<◌, ℤ, pos, neg_ℤ, Option, Some, None, length, drop}
 use Rattle.std.proofs.Math.Option.{none, some}
 use Rattle.decimal.specs.declared.Kind.{Kind}
 use Rattle.decimal.specs.declared.Kind.TheVariants.{Minus, Zero, Digit, Tab, End, Other}
-use Rattle.decimal.specs.declared.Number.{Number}
-use Rattle.decimal.specs.declared.Number.TheVariants.{Value, Bad}
 use Rattle.decimal.specs.declared.Digits.{Digits}
 use Rattle.decimal.specs.Numerals.{most_digits}
 use Rattle.decimal.specs.Reading.{Reading, more, magnitude, number}
@@ -37,13 +35,17 @@ is_minus Tab = false
 is_minus End = false
 is_minus Other = false
 
--- the number and the place behind it, in a text of n bytes
-abbrev pub placed : ℕ → Reading ℤ → Number
-placed n none = Bad
-placed n (some p) = Value p.0 (n - length p.1)
+-- a value that was read, and the place behind it
+abbrev pub read_to : {A : Type 0} → A → ℕ → Option (A × ℕ)
+read_to a next = Some (a, next)
+
+-- the same by the bytes behind it, in a text of n bytes
+abbrev pub placed : {A : Type 0} → ℕ → Reading A → Option (A × ℕ)
+placed n none = None
+placed n (some p) = read_to p.0 (n - length p.1)
 
 -- the number at a place
-unfoldable pub number_from : List ℕ → ℕ → Number
+unfoldable pub number_from : List ℕ → ℕ → Option (ℤ × ℕ)
 number_from s at = placed (length s) (number (drop at s))
 
 -- a magnitude with its sign
@@ -52,9 +54,9 @@ sign true n = neg_ℤ (pos n)
 sign false n = pos n
 
 -- the number 0, which ends at a place: no minus stands before it
-abbrev pub zero_at : Bool → ℕ → Number
-zero_at true next = Bad
-zero_at false next = Value (pos 0) next
+abbrev pub zero_at : Bool → ℕ → Option (ℤ × ℕ)
+zero_at true next = None
+zero_at false next = read_to (pos 0) next
 
 -- `value` and `next` are what up to `most_digits - 1` digits more give behind `first`, from `at` on
 pub record MoreFrom (s : List ℕ) (at first : ℕ) (r : Digits) : Type 0 where

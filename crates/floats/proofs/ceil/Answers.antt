@@ -1,39 +1,29 @@
--- `floats::ceil`: a value from 0 on goes up where anything was cut off, one below 0 is cut.
-use mathlib.Core.Path.{sym, ap, ◌∙◌}
-use lib.IntN.{pos}
-use Prim.Native.Nat.{ℕ, ◌≤◌}
+-- `floats::ceil`: the parts of the value, with their sign.
+use mathlib.Core.Path.{ap, ◌∙◌}
+use mathlib.Core.Bool.{cond}
+use lib.IntN.{pos, neg_ℤ}
+use Prim.Native.Nat.{ℕ, ◌+◌, ◌≤◌}
 use native.Mathlib.Omega.{arith}
 use mir.Syntax.{w32}
 use mir.ValLaws.{to_z-of_z}
 use borrow.Author.Rules.{sfits_of}
 use Rattle.floats.specs.Parts.{farthest}
-use Rattle.floats.proofs.Patterns.{parts-bound, ceil-below, ceil-above}
+use Rattle.floats.proofs.Patterns.{number-most, parts-bound, ceil-told}
 use Rattle.floats.proofs.ceil.Goals as goal
+
+pub overflow_add-c : goal.overflow_add-c
+overflow_add-c c =
+    let bound : c.taken_apart-c.result.whole ≤ farthest = parts-bound c.args.x _ _ _ c.taken_apart-c.ensures c.requires in
+    omega (arith, bound, number-most _ _ c.from.ensures)
 
 pub signed-requires : goal.signed-requires
 signed-requires c =
     let bound : c.taken_apart-c.result.whole ≤ farthest = parts-bound c.args.x _ _ _ c.taken_apart-c.ensures c.requires in
-    omega (arith, bound)
-
-pub returns-then-c : goal.returns-then-c
-returns-then-c c =
-    to_z-of_z w32 c.signed.result (sfits_of c.signed.type_inv)
-    ∙ c.signed.ensures
-    ∙ sym (ceil-below c.args.x _ _ _ c.taken_apart-c.ensures c.if-c.true)
-
-pub one_more_if-requires : goal.one_more_if-requires
-one_more_if-requires c =
-    let bound : c.taken_apart-c.result.whole ≤ farthest = parts-bound c.args.x _ _ _ c.taken_apart-c.ensures c.requires in
-    bound
-
-pub signed-requires-2 : goal.signed-requires-2
-signed-requires-2 c =
-    let bound : c.taken_apart-c.result.whole ≤ farthest = parts-bound c.args.x _ _ _ c.taken_apart-c.ensures c.requires in
-    omega (arith, bound, c.one_more_if.ensures.1)
+    omega (arith, bound, number-most _ _ c.from.ensures)
 
 pub returns : goal.returns
 returns c =
-    to_z-of_z w32 c.signed-2.result (sfits_of c.signed-2.type_inv)
-    ∙ c.signed-2.ensures
-    ∙ ap (λ (n : ℕ). pos n) c.one_more_if.ensures.0
-    ∙ sym (ceil-above c.args.x _ _ _ c.taken_apart-c.ensures c.if-c.false)
+    to_z-of_z w32 c.signed.result (sfits_of c.signed.type_inv)
+    ∙ c.signed.ensures
+    ∙ ap (λ (n : ℕ). cond c.taken_apart-c.result.below (neg_ℤ (pos (c.taken_apart-c.result.whole + n))) (pos (c.taken_apart-c.result.whole + n))) c.from.ensures
+    ∙ ceil-told c.args.x _ _ _ c.taken_apart-c.ensures

@@ -8,6 +8,6 @@ pub returns-then-z : goal.returns-then-z
 unfolding between
 returns-then-z c = cc (to_z-of_z {w = w32} c.ranges.z)
 
-pub returns : goal.returns
+pub returns-else-z : goal.returns-else-z
 unfolding between
-returns c = cc (to_z-of_z {w = w32} c.ranges.z)
+returns-else-z c = cc (to_z-of_z {w = w32} c.ranges.z)

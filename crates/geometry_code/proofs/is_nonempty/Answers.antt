@@ -12,8 +12,8 @@ returns-then-r c =
     let f = fits-r in
     ap₂ le_z (to_z-of_z f.bottom) (to_z-of_z f.top) ∙ some_then c.args.r (read-le f.left f.right c.if-r.true)
 
-pub returns : goal.returns
-returns c =
+pub returns-else-r : goal.returns-else-r
+returns-else-r c =
     let fits-r : Fitting c.args.r = search rules in
     let f = fits-r in
-    some-else c.args.r (read-le f.left f.right c.if-r.false)
+    c.if-r.false ∙ some-else c.args.r (read-le f.left f.right c.if-r.false)

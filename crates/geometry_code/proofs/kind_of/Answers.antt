@@ -4,26 +4,26 @@ use mathlib.Core.Bool.{true, false}
 use Rattle.geometry.proofs.Machine.{Fitting, read-lt, kind-is}
 use Rattle.geometry_code.proofs.kind_of.Goals as goal
 
-pub returns-then-r-2 : goal.returns-then-r-2
-returns-then-r-2 c =
+pub returns-in-true-true : goal.returns-in-true-true
+returns-in-true-true c =
     let fits-r : Fitting c.args.r = search rules in
     let f = fits-r in
-    kind-is _ true true (read-lt f.left f.right c.if-r.true) (read-lt f.bottom f.top c.if-r-2.true)
+    kind-is _ true true (read-lt f.left f.right c.in-true-true.is-0) (read-lt f.bottom f.top c.in-true-true.is-1)
 
-pub returns-then-r : goal.returns-then-r
-returns-then-r c =
+pub returns-in-true-false : goal.returns-in-true-false
+returns-in-true-false c =
     let fits-r : Fitting c.args.r = search rules in
     let f = fits-r in
-    kind-is _ true false (read-lt f.left f.right c.if-r.true) (read-lt f.bottom f.top c.if-r-2.false)
+    kind-is _ true false (read-lt f.left f.right c.in-true-false.is-0) (read-lt f.bottom f.top c.in-true-false.is-1)
 
-pub returns-then-r-3 : goal.returns-then-r-3
-returns-then-r-3 c =
+pub returns-in-true-false-2 : goal.returns-in-true-false-2
+returns-in-true-false-2 c =
     let fits-r : Fitting c.args.r = search rules in
     let f = fits-r in
-    kind-is _ false true (read-lt f.left f.right c.if-r.false) (read-lt f.bottom f.top c.if-r-3.true)
+    kind-is _ false true (read-lt f.left f.right c.in-true-false.is-0) (read-lt f.bottom f.top c.in-true-false.is-1)
 
-pub returns : goal.returns
-returns c =
+pub returns-in-false-false : goal.returns-in-false-false
+returns-in-false-false c =
     let fits-r : Fitting c.args.r = search rules in
     let f = fits-r in
-    kind-is _ false false (read-lt f.left f.right c.if-r.false) (read-lt f.bottom f.top c.if-r-3.false)
+    kind-is _ false false (read-lt f.left f.right c.in-false-false.is-0) (read-lt f.bottom f.top c.in-false-false.is-1)

@@ -10,11 +10,8 @@ use Rattle.nearest.proofs.Answers.{near_none, found_first, found-step}
 use Rattle.nearest_code.proofs.nearest_among.Goals as goal
 use Rattle.nearest_code.proofs.nearest_among.Goals.{then-gap-least, else-gap-least}
 
-pub nothing_near-requires : goal.nothing_near-requires
-nothing_near-requires c = tt
-
 pub returns-then-size-eq0 : goal.returns-then-size-eq0
-returns-then-size-eq0 c = c.nothing_near.ensures ∙ (near_none _ _ ∙ ap (nearest_to _ _) (sym c.if-size-eq0.true))
+returns-then-size-eq0 c = near_none _ _ ∙ ap (nearest_to _ _) (sym c.if-size-eq0.true)
 
 pub rect_at-requires : goal.rect_at-requires
 rect_at-requires c = omega (arith, c.requires.part.whole)

@@ -1,5 +1,5 @@
 -- `nearest_code::nearest_at`: a layer past the last is empty; the cells of one that is there are a part of the plan's.
-use mathlib.Core.Path.{sym, ◌∙◌}
+use mathlib.Core.Path.{sym}
 use Prim.Native.Nat.{◌≤◌, ◌<◌}
 use native.Mathlib.Omega.{arith}
 use lib.ListN.{length}
@@ -8,7 +8,7 @@ use Rattle.nearest.proofs.Answers.{near-past, layer-reads, layer-part, near-laye
 use Rattle.nearest_code.proofs.nearest_at.Goals as goal
 
 pub returns-then-j-sizes : goal.returns-then-j-sizes
-returns-then-j-sizes c = c.nothing_near.ensures ∙ near-past _ c.args.sizes.now c.args.cells.now _ c.if-j-sizes.true
+returns-then-j-sizes c = near-past _ c.args.sizes.now c.args.cells.now _ c.if-j-sizes.true
 
 pub slice_bounds-sum_of-end : goal.slice_bounds-sum_of-end
 slice_bounds-sum_of-end c =

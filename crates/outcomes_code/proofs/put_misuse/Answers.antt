@@ -4,4 +4,4 @@ use borrow.Author.Rules.{rules}
 use Rattle.outcomes_code.proofs.put_misuse.Goals as goal
 
 pub returns : goal.returns
-returns c = search (rules, told-misused)
+returns c = rw c.misused.ensures (search (rules, told-misused))

@@ -7,4 +7,4 @@ pub put_refused-m-requires : goal.put_refused-m-requires
 put_refused-m-requires c = search (rules, refused-room)
 
 pub returns : goal.returns
-returns c = search (rules, told-refused)
+returns c = rw c.refused.ensures (search (rules, told-refused))

@@ -1,22 +1,18 @@
 -- `read` decides first, and fills the cells where the text is accepted.
+use Rattle.plan.proofs.Causes.{number-above, passed}
 use Rattle.text.proofs.Reader.{read-refused, read-accepted}
 use Rattle.reader.proofs.read.Goals as goal
 
-pub returns-then-r-ne0 : goal.returns-then-r-ne0
-returns-then-r-ne0 c =
-    record {
-      answer = (read-refused c.args.text.now c.args.cells.now c.decide-d.result c.decide-d.ensures c.if-r-ne0.true).0;
-      number = (read-refused c.args.text.now c.args.cells.now c.decide-d.result c.decide-d.ensures c.if-r-ne0.true).1.0;
-      buffer = (read-refused c.args.text.now c.args.cells.now c.decide-d.result c.decide-d.ensures c.if-r-ne0.true).1.1;
-    }
+pub returns-in_err-d : goal.returns-in_err-d
+returns-in_err-d c =
+    let k = read-refused c.args.text.now c.args.cells.now _ (number-above _) c.in_err-d.ensures in
+    let p = passed _ _ c.from_residual.ensures.1 in
+    record { answer = rw p k.0; number = rw p c.in_err-d.ensures; buffer = k.1 }
 
 pub fill-requires : goal.fill-requires
-fill-requires c = c.decide-d.ensures.room c.if-r-ne0.false
+fill-requires c = c.in_ok-d.ensures.room
 
 pub returns : goal.returns
 returns c =
-    record {
-      answer = (read-accepted c.args.text.now c.args.cells.now c.decide-d.result c.decide-d.ensures _ _ c.if-r-ne0.false c.fill.ensures).0;
-      number = (read-accepted c.args.text.now c.args.cells.now c.decide-d.result c.decide-d.ensures _ _ c.if-r-ne0.false c.fill.ensures).1.0;
-      buffer = (read-accepted c.args.text.now c.args.cells.now c.decide-d.result c.decide-d.ensures _ _ c.if-r-ne0.false c.fill.ensures).1.1;
-    }
+    let k = read-accepted c.args.text.now c.args.cells.now _ _ _ c.in_ok-d.ensures c.fill.ensures in
+    record { answer = k.0; number = k.1.0; buffer = k.1.1 }

@@ -3,10 +3,10 @@ use Rattle.std.specs.Prelude.{◌≡◌, List, ℕ, ◌*◌, ◌≤◌, ℤ, len
 use Rattle.std.proofs.Math.Option.{none}
 use Rattle.lists.specs.Lists.{sum}
 use Rattle.plan.specs.declared.Shape.{Shape}
-use Rattle.plan.specs.Causes.{on_cause}
+use Rattle.plan.specs.Causes.{refusal, on_cause}
 use Rattle.plan.specs.Plan.{Sound, grown}
 use Rattle.sweep.specs.Sweep.{sweep_order}
-use Rattle.paging.specs.declared.Run.{Run}
+use Rattle.paging.specs.Answers.{Run}
 use Rattle.paging.specs.Calls.{run_cause, run_call, run_table}
 use Rattle.printing.specs.Lines.{refused_line}
 use Rattle.lists.specs.inner.Stores.{Put}
@@ -23,7 +23,7 @@ plan_report s cells = on_cause (plan_cause s cells) (table_report s cells) refus
 
 -- bytes stand at the start of a buffer, beside the cause that they tell
 pub record Printed (n : ℕ) (bytes out last : List ℕ) (r : Printout) : Type 0 where
-  pub number : r.cause ≡ n
+  pub number : refusal r.told ≡ n
   pub put : Put out 0 bytes last r.size
 
 -- the first cells, four for each rectangle of a shape

@@ -3,6 +3,7 @@ use mathlib.Core.Path.{◌≡◌, sym, ◌∙◌}
 use mathlib.Core.Bool.{true}
 use native.Mathlib.Omega.{arith}
 use lib.ListN.{length}
+use Rattle.plan.proofs.Causes.{number-above}
 use Rattle.rounds.specs.Rounds.{fits_round}
 use Rattle.rounds_code.specs.Parts.{request}
 use Rattle.rounds.proofs.Causes.{Fitting, fits-yes}
@@ -10,21 +11,18 @@ use Rattle.rounds_code.proofs.Answers.{round-refused, round-given, by-numbers, b
 use Rattle.rounds_code.proofs.round_on.Goals as goal
 
 pub returns-then-not-is_fitting : goal.returns-then-not-is_fitting
-returns-then-not-is_fitting c = λ t plain k. let q = (request t plain c.args.order.now c.args.m c.args.first c.args.budget c.args.tickets c.args.counters.now c.args.table.now) in round-refused q 22 (by-numbers q k.passed (sym c.is_fitting.ensures ∙ c.if-not-is_fitting.true)) (λ z. omega arith) _ c.refused_round.ensures
+returns-then-not-is_fitting c = λ t plain k. let q = (request t plain c.args.walk.now.order.now c.args.m c.args.first c.args.budget c.args.tickets c.args.counters.now c.args.table.now) in round-refused q 22 (by-numbers q k.passed (sym c.is_fitting.ensures ∙ c.if-not-is_fitting.true)) (λ z. omega arith) _ c.refused_round.ensures
 
-pub clients_cause-lowest-requires : goal.clients_cause-lowest-requires
-clients_cause-lowest-requires c =
+pub check_clients-requires : goal.check_clients-requires
+check_clients-requires c =
     let fit : fits_round c.args.m c.args.first c.args.budget (length c.args.counters.now) ≡ true = sym c.is_fitting.ensures ∙ c.if-not-is_fitting.false in
     let fitting : Fitting c.args.m c.args.first c.args.budget (length c.args.counters.now) = fits-yes _ _ _ _ fit in
-    let g = fitting in record {
-      framing = c.requires;
-      m_bound = (g.few, omega (arith, g.one_each));
-    }
+    let g = fitting in record { framing = (c.requires.0, c.requires.1); m_bound = (g.few, omega (arith, g.one_each)) }
 
-pub returns-then-lowest-ne0 : goal.returns-then-lowest-ne0
-returns-then-lowest-ne0 c =
+pub returns-in-Err : goal.returns-in-Err
+returns-in-Err c =
     let fit : fits_round c.args.m c.args.first c.args.budget (length c.args.counters.now) ≡ true = sym c.is_fitting.ensures ∙ c.if-not-is_fitting.false in
-    λ t plain k. let q = (request t plain c.args.order.now c.args.m c.args.first c.args.budget c.args.tickets c.args.counters.now c.args.table.now) in round-refused q _ (by-clients q k.passed fit _ (c.clients_cause-lowest.ensures t plain k)) (λ w. omega (arith, c.if-lowest-ne0.true)) _ c.refused_round-then-lowest-ne0.ensures
+    λ t plain k. let q = (request t plain c.args.walk.now.order.now c.args.m c.args.first c.args.budget c.args.tickets c.args.counters.now c.args.table.now) in round-refused q _ (by-clients q k.passed fit _ (c.in-Err.ensures t plain k)) (number-above _) _ c.refused_round-in-Err.ensures
 
 pub overflow_cast-budget : goal.overflow_cast-budget
 overflow_cast-budget c =
@@ -36,10 +34,7 @@ pub serve_all-pages-requires : goal.serve_all-pages-requires
 serve_all-pages-requires c =
     let fit : fits_round c.args.m c.args.first c.args.budget (length c.args.counters.now) ≡ true = sym c.is_fitting.ensures ∙ c.if-not-is_fitting.false in
     let fitting : Fitting c.args.m c.args.first c.args.budget (length c.args.counters.now) = fits-yes _ _ _ _ fit in
-    let g = fitting in record {
-      framing = c.requires;
-      m_bound = (g.few, g.from, g.to, g.one_each);
-    }
+    let g = fitting in record { framing = (c.requires.0, c.requires.1); m_bound = (g.few, g.from, g.to, g.one_each) }
 
 pub after_client-requires : goal.after_client-requires
 after_client-requires c =
@@ -50,4 +45,4 @@ after_client-requires c =
 pub returns : goal.returns
 returns c =
     let fit : fits_round c.args.m c.args.first c.args.budget (length c.args.counters.now) ≡ true = sym c.is_fitting.ensures ∙ c.if-not-is_fitting.false in
-    λ t plain k. let q = (request t plain c.args.order.now c.args.m c.args.first c.args.budget c.args.tickets c.args.counters.now c.args.table.now) in round-given q (by-clients q k.passed fit 0 (sym c.if-lowest-ne0.false ∙ c.clients_cause-lowest.ensures t plain k)) _ _ _ (c.serve_all-pages.ensures t plain k) _ c.after_client.ensures
+    λ t plain k. let q = (request t plain c.args.walk.now.order.now c.args.m c.args.first c.args.budget c.args.tickets c.args.counters.now c.args.table.now) in round-given q (by-clients q k.passed fit 0 (c.in-Ok.ensures t plain k)) _ _ _ (c.serve_all-pages.ensures t plain k) _ c.after_client.ensures

@@ -1,31 +1,19 @@
 -- `rows_code::row_common`: the common rectangle and the kind of what the cells name.
-use mathlib.Core.Path.{◌≡◌, sym, ap, ◌∙◌}
-use Rattle.rows.specs.declared.CommonAnswer.{CommonAnswer}
+use mathlib.Core.Path.{sym, ap, ◌∙◌}
+use Rattle.std.specs.Prelude.{Ok}
+use Rattle.plan.proofs.Causes.{passed}
 use Rattle.rows.specs.RowCall.{common_values}
 use Rattle.rows.proofs.Answers.{common-is}
 use Rattle.rows_code.proofs.row_common.Goals as goal
 
--- an answer, and so its values
-told : {r s : CommonAnswer} → r ≡ s → (r ≡ s) × (common_values r ≡ common_values s)
-told e = (e, ap common_values e)
+pub returns-in_err-plan_named : goal.returns-in_err-plan_named
+returns-in_err-plan_named c =
+    let told = common-is _ _ _ _ c.in_err-plan_named.ensures in
+    let p = passed _ _ c.from_residual.ensures.1 in
+    record { answer = rw p told; values = rw p (ap common_values told) }
 
-pub returns-in-Refused : goal.returns-in-Refused
-returns-in-Refused c =
-    record {
-      answer = (common-is _ _ _ _ (sym c.in-Refused.is ∙ c.plan_named.ensures));
-      values = ap common_values (common-is _ _ _ _ (sym c.in-Refused.is ∙ c.plan_named.ensures));
-    }
+pub returns-in-None : goal.returns-in-None
+returns-in-None c = let told = common-is _ _ _ _ (sym (ap Ok c.in-None.is) ∙ c.in_ok-plan_named.ensures) in record { answer = told; values = ap common_values told }
 
-pub returns-in-Nothing : goal.returns-in-Nothing
-returns-in-Nothing c =
-    record {
-      answer = (common-is _ _ _ _ (sym c.in-Nothing.is ∙ c.plan_named.ensures));
-      values = ap common_values (common-is _ _ _ _ (sym c.in-Nothing.is ∙ c.plan_named.ensures));
-    }
-
-pub returns-in-Row : goal.returns-in-Row
-returns-in-Row c =
-    record {
-      answer = (common-is _ _ _ _ (sym c.in-Row.is ∙ c.plan_named.ensures));
-      values = ap common_values (common-is _ _ _ _ (sym c.in-Row.is ∙ c.plan_named.ensures));
-    }
+pub returns-in-Some : goal.returns-in-Some
+returns-in-Some c = let told = common-is _ _ _ _ (sym (ap Ok c.in-Some.is) ∙ c.in_ok-plan_named.ensures) in record { answer = told; values = ap common_values told }

@@ -1,9 +1,11 @@
 -- What the reader's two passes promise one another; no public call's contract cites it.
-use Rattle.std.specs.Prelude.{◌≡◌, List, true, ℕ, ◌≤◌, ℤ, length, drop}
+use Rattle.std.specs.Prelude.{◌≡◌, List, true, ℕ, ◌≤◌, ℤ, length, drop, Result, Ok, Err}
+use Rattle.plan.specs.declared.cause.Cause.{Cause}
+use Rattle.plan.specs.Causes.{number_of}
 use Rattle.text.specs.declared.Decision.{Decision}
 use Rattle.text.specs.Parsing.{all_lines}
 use Rattle.text.specs.Plans.{cells_in}
-use Rattle.text.specs.Reader.{text_cells, no_shape, read_answer}
+use Rattle.text.specs.Reader.{read_cause, text_shape, text_cells}
 use Rattle.lists.specs.Lists.{is_some, list_in}
 
 -- the cells that the lines of a text give
@@ -16,12 +18,14 @@ pub record LinesFit (s : List ℕ) (i n : ℕ) : Type 0 where
   pub formed : is_some (all_lines (drop i s)) ≡ true
   pub fits : length (rest_cells (drop i s)) ≤ n
 
--- a refusal by its number
-abbrev pub refused_by : ℕ → Decision
-refused_by cause = record { reading = record { number = cause; shape = no_shape }; next = 0 }
+-- an accepted text: its shape, and the place from which it fills the cells
+pub record Taken (s : List ℕ) (n : ℕ) (d : Decision) : Type 0 where
+  pub passed : read_cause n s ≡ 0
+  pub shape : d.shape ≡ text_shape s
+  pub room : LinesFit s d.next n
+  pub cells : rest_cells (drop d.next s) ≡ text_cells s
 
--- the answer, and the place from which an accepted text fills the cells
-pub record Decided (s : List ℕ) (n : ℕ) (d : Decision) : Type 0 where
-  pub answer : d.reading ≡ read_answer n s
-  pub room : d.reading.number ≡ 0 → LinesFit s d.next n
-  pub cells : d.reading.number ≡ 0 → rest_cells (drop d.next s) ≡ text_cells s
+-- what the first pass decides where n cells are lent
+abbrev pub Decided : List ℕ → ℕ → Result Decision Cause → Type 0
+Decided s n (Ok d) = Taken s n d
+Decided s n (Err c) = number_of c ≡ read_cause n s

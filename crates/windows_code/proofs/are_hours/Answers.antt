@@ -11,9 +11,6 @@ returns-then-hours-n c = hours-short _ _ c.if-hours-n.true
 pub loop-i-init : goal.loop-i-init
 loop-i-init c = (omega arith, refl)
 
-pub is_window-requires : goal.is_window-requires
-is_window-requires c = tt
-
 pub returns-then-not-is_window : goal.returns-then-not-is_window
 returns-then-not-is_window c = hours-not _ _ c.if-hours-n.false c.loop-i.i c.loop-i-test.true (ap is_window (sym c.window_at.ensures) ∙ (sym c.is_window.ensures ∙ c.if-not-is_window.true))
 

@@ -1,4 +1,4 @@
--- `windows_code::minutes_in`. The invariant: from the minutes so far, the windows of the layers that are left lead to those of all. The measure is the number of layers left.
+-- `windows_code::minutes_in`. The invariant: from the minutes so far, the windows of the layers that are left lead to those of all.
 use Prim.Native.Nat.{◌-◌}
 use lib.ListN.{length}
 use Rattle.windows.proofs.Rowwise.{Sharing}
@@ -6,6 +6,3 @@ use Rattle.windows_code.proofs.minutes_in.Given as goal
 
 abbrev pub invariant-loop-j : goal.invariant-loop-j
 invariant-loop-j l = Sharing l.sizes l.hours l.row l.w l.start l.j
-
-abbrev pub decreases-loop-j : goal.decreases-loop-j
-decreases-loop-j l = length l.sizes - l.j

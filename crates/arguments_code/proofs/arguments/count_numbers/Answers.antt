@@ -1,9 +1,6 @@
-use Rattle.commands.proofs.Counts.{numbered-none, numbered_more, numbered-stop, numbered-all}
+use Rattle.commands.proofs.Counts.{numbered_more, numbered-stop, numbered-all}
 use borrow.Author.Rules.{rules}
 use Rattle.arguments_code.proofs.arguments.count_numbers.Goals as goal
-
-pub loop-n-init : goal.loop-n-init
-loop-n-init c = search (rules, numbered-none)
 
 pub returns-then-not-takes_number : goal.returns-then-not-takes_number
 returns-then-not-takes_number c = search (rules, numbered-stop)

@@ -1,9 +1,6 @@
-use Rattle.commands.proofs.Places.{placed-none, placed-more, placed-all}
+use Rattle.commands.proofs.Places.{placed-more, placed-all}
 use borrow.Author.Rules.{rules}
 use Rattle.arguments_code.proofs.arguments.fill_places.Goals as goal
-
-pub loop-i-init : goal.loop-i-init
-loop-i-init c = search (rules, placed-none)
 
 pub loop-i-preserved : goal.loop-i-preserved
 loop-i-preserved c = search (rules, placed-more)

@@ -1,7 +1,7 @@
--- `names_number` takes the bytes between the start and the end of the argument.
-use Rattle.commands.proofs.Arguments.{number-part}
-use borrow.Author.Rules.{rules}
+-- `names_number` asks the argument's bytes.
+use mathlib.Core.Path.{ap, ◌∙◌}
+use Rattle.commands.specs.Arguments.{is_number}
 use Rattle.arguments_code.proofs.arguments.names_number.Goals as goal
 
 pub returns : goal.returns
-returns c = search (rules, number-part)
+returns c = c.is_number.ensures ∙ ap is_number c.part_of.ensures

@@ -3,8 +3,8 @@ use Rattle.commands.proofs.Calls.{limit-none, limit-some}
 use borrow.Author.Rules.{rules}
 use Rattle.arguments_code.proofs.limits.limit_or.Goals as goal
 
-pub returns-then-command-ge-MOST_COMMANDS : goal.returns-then-command-ge-MOST_COMMANDS
-returns-then-command-ge-MOST_COMMANDS c = search (rules, limit-none)
+pub returns-in-Some : goal.returns-in-Some
+returns-in-Some c = search (rules, limit-some)
 
-pub returns : goal.returns
-returns c = search (rules, limit-some)
+pub returns-in-None : goal.returns-in-None
+returns-in-None c = search (rules, limit-none)

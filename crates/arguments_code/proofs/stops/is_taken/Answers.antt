@@ -6,8 +6,8 @@ use Rattle.arguments_code.proofs.stops.is_taken.Goals as goal
 pub returns-then-is_number : goal.returns-then-is_number
 returns-then-is_number c = search (rules, taken-number)
 
-pub returns-then-dash-ne1 : goal.returns-then-dash-ne1
-returns-then-dash-ne1 c = search (rules, taken_none)
+pub returns-then-dash-eq1 : goal.returns-then-dash-eq1
+returns-then-dash-eq1 c = search (rules, taken-dash)
 
-pub returns : goal.returns
-returns c = search (rules, taken-dash)
+pub returns-else-dash-eq1 : goal.returns-else-dash-eq1
+returns-else-dash-eq1 c = search (rules, taken_none)

@@ -1,7 +1,7 @@
--- `takes_number` takes the bytes between the start and the end of the argument.
-use Rattle.commands.proofs.Arguments.{taken-part}
-use borrow.Author.Rules.{rules}
+-- `takes_number` asks the argument's bytes.
+use mathlib.Core.Path.{ap, ◌∙◌}
+use Rattle.commands.specs.Arguments.{is_taken}
 use Rattle.arguments_code.proofs.stops.takes_number.Goals as goal
 
 pub returns : goal.returns
-returns c = search (rules, taken-part)
+returns c = c.is_taken.ensures ∙ ap (is_taken c.args.dash) c.part_of.ensures

@@ -1,6 +1,8 @@
 -- `tell_pairs` lists the rows and their number, where the plan has the layer.
+use native.Mathlib.Omega.{arith}
 use Rattle.outcomes.proofs.Outcomes.{told_same}
 use Rattle.asking_runs_code.proofs.PairsTold.{no-layer-told, all-listable, count_room, pairs-told}
+use Rattle.pens.specs.Pens.{place, capacity, wrote}
 use borrow.Author.Rules.{rules}
 use Rattle.asking_runs_code.proofs.pairing.tell_pairs.Goals as goal
 
@@ -14,8 +16,10 @@ list_all-listed-requires c =
       listable = search (rules, all-listable);
     }
 
-pub put_count-n-requires : goal.put_count-n-requires
-put_count-n-requires c = search (rules, count_room)
+pub put_count-requires : goal.put_count-requires
+unfolding place capacity
+put_count-requires c = search (rules, count_room)
 
 pub returns : goal.returns
-returns c = search (rules, pairs-told)
+unfolding wrote
+returns c = rw c.done.ensures (pairs-told _ _ _ c.requires.1 _ _ c.requires.0 _ _ c.list_all-listed.ensures _ _ (omega arith) (search rules))

@@ -14,17 +14,17 @@ returns-in_default c = layering-none _ _ _ _ c.loop-at.invariant (omega arith) (
 
 pub overflow_add-count : goal.overflow_add-count
 overflow_add-count c =
-    let n = layering-small _ _ _ _ c.loop-at.invariant c.in-At.line _ c.layer_line-count.ensures in
+    let n = layering-small _ _ _ _ c.loop-at.invariant c.in-Some.line _ c.layer_line-count.ensures in
     omega (arith, n)
 
 pub loop-at-smaller : goal.loop-at-smaller
 loop-at-smaller c =
-    let read : Line-at c.args.text.now c.loop-at.at c.in-At.line c.in-At.next = line_on _ _ _ _ (sym c.in-At.is ∙ c.read_line.ensures) in
+    let read : Line-at c.args.text.now c.loop-at.at c.in-Some.line c.in-Some.next = line_on _ _ _ _ (sym c.in-Some.is ∙ c.read_line.ensures) in
     omega (arith, read)
 
 pub loop-at-preserved : goal.loop-at-preserved
 loop-at-preserved c =
-    let read : Line-at c.args.text.now c.loop-at.at c.in-At.line c.in-At.next = line_on _ _ _ _ (sym c.in-At.is ∙ c.read_line.ensures) in
+    let read : Line-at c.args.text.now c.loop-at.at c.in-Some.line c.in-Some.next = line_on _ _ _ _ (sym c.in-Some.is ∙ c.read_line.ensures) in
     layering-more _ _ _ _ c.loop-at.invariant _ _ _ read c.layer_line-count.ensures
 
 pub returns : goal.returns

@@ -15,16 +15,16 @@ returns-in_default c = plan-first _ c.requires.0 (line-bad _ 0 (sym c.in_default
 
 pub put_lines-requires : goal.put_lines-requires
 put_lines-requires c =
-    let first : Line-at c.args.text.now 0 c.in-At.line c.in-At.next = line_on _ _ _ _ (sym c.in-At.is ∙ c.read_line.ensures) in
+    let first : Line-at c.args.text.now 0 c.in-Some.line c.in-Some.next = line_on _ _ _ _ (sym c.in-Some.is ∙ c.read_line.ensures) in
     let f : SFits w32 c.in-Plan.k = search rules in
     (record { formed = c.requires.0; first = simp to_z-of_z (rw c.in-Plan.is at first) }, c.requires.1, search rules)
 
 pub returns-in-Layer : goal.returns-in-Layer
 returns-in-Layer c =
-    let first : Line-at c.args.text.now 0 c.in-At.line c.in-At.next = line_on _ _ _ _ (sym c.in-At.is ∙ c.read_line.ensures) in
+    let first : Line-at c.args.text.now 0 c.in-Some.line c.in-Some.next = line_on _ _ _ _ (sym c.in-Some.is ∙ c.read_line.ensures) in
     plan-only _ c.requires.0 _ _ (ap inner c.in-Layer.is) first
 
 pub returns-in-Rectangle : goal.returns-in-Rectangle
 returns-in-Rectangle c =
-    let first : Line-at c.args.text.now 0 c.in-At.line c.in-At.next = line_on _ _ _ _ (sym c.in-At.is ∙ c.read_line.ensures) in
+    let first : Line-at c.args.text.now 0 c.in-Some.line c.in-Some.next = line_on _ _ _ _ (sym c.in-Some.is ∙ c.read_line.ensures) in
     plan-only _ c.requires.0 _ _ (ap inner c.in-Rectangle.is) first

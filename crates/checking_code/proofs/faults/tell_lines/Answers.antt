@@ -13,12 +13,12 @@ returns-in_default c = noting-none _ _ _ _ _ _ _ _ _ c.loop-at.invariant (omega 
 
 pub loop-at-smaller : goal.loop-at-smaller
 loop-at-smaller c =
-    let read : Line-at c.args.text.now c.loop-at.at c.in-At.line c.in-At.next = line_on _ _ _ _ (sym c.in-At.is ∙ c.read_line.ensures) in
+    let read : Line-at c.args.text.now c.loop-at.at c.in-Some.line c.in-Some.next = line_on _ _ _ _ (sym c.in-Some.is ∙ c.read_line.ensures) in
     omega (arith, read)
 
 pub loop-at-preserved : goal.loop-at-preserved
 loop-at-preserved c =
-    let read : Line-at c.args.text.now c.loop-at.at c.in-At.line c.in-At.next = line_on _ _ _ _ (sym c.in-At.is ∙ c.read_line.ensures) in
+    let read : Line-at c.args.text.now c.loop-at.at c.in-Some.line c.in-Some.next = line_on _ _ _ _ (sym c.in-Some.is ∙ c.read_line.ensures) in
     noting-more _ _ _ _ _ _ _ _ _ c.loop-at.invariant _ _ _ _ _ read c.tell_line-p.ensures c.count_line-c.ensures
 
 pub returns : goal.returns

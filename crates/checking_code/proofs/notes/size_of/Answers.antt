@@ -1,28 +1,25 @@
--- `size_of` goes by the sign.
-use mathlib.Core.Path.{◌≡◌}
-use mathlib.Core.Bool.{true, false}
-use lib.IntN.{pos}
-use lib.Signed.{le_z}
+-- `size_of` takes the larger of the number and 0.
+use mathlib.Core.Path.{◌≡◌, ap, ◌∙◌}
+use native.Mathlib.Omega.{arith}
+use borrow.Author.Tests.{le-leb}
+use lib.IntN.{ℤ, pos, negsuc, nat_abs}
+use Prim.Native.Nat.{zero, suc}
 use mir.Syntax.{w32}
 use mir.Val.{SFits}
 use mir.Facts.{to_z-of_z}
-use Rattle.checking.proofs.Faults.{size_above, size_below, not-below, size_fits}
+use borrow.Author.Rules.{sfits_of}
+use Rattle.std.specs.Int.{int_max}
+use Rattle.checking.specs.Faults.{size_of}
 use Rattle.checking_code.proofs.notes.size_of.Goals as goal
 
-pub overflow_cast-result : goal.overflow_cast-result
-overflow_cast-result c =
-    let f : SFits w32 c.args.z = c.ranges.z in
-    let e : le_z (pos 0) c.args.z ≡ true = simp to_z-of_z at c.if-z-ge0.true in
-    simp to_z-of_z (not-below c.args.z e, size_fits f)
-
-pub returns-then-z-ge0 : goal.returns-then-z-ge0
-returns-then-z-ge0 c =
-    let f : SFits w32 c.args.z = c.ranges.z in
-    let e : le_z (pos 0) c.args.z ≡ true = simp to_z-of_z at c.if-z-ge0.true in
-    simp to_z-of_z (size_above c.args.z e)
+larger : (z m : ℤ) → m ≡ int_max z (pos 0) → nat_abs m ≡ size_of z
+unfolding size_of
+larger (pos zero) m e = ap nat_abs e
+larger (pos (suc n)) m e = ap nat_abs e ∙ rw (le-leb 1 (suc n) (omega arith), le-leb 0 (suc n) (omega arith))
+larger (negsuc n) m e = ap nat_abs e
 
 pub returns : goal.returns
 returns c =
     let f : SFits w32 c.args.z = c.ranges.z in
-    let e : le_z (pos 0) c.args.z ≡ false = simp to_z-of_z at c.if-z-ge0.false in
-    size_below c.args.z e
+    let g : SFits w32 c.max.result = sfits_of c.max.type_inv in
+    simp to_z-of_z (larger c.args.z c.max.result (simp to_z-of_z at c.max.ensures.value))

@@ -1,10 +1,8 @@
 -- `is_line` reads a line at the start.
-use mathlib.Core.Path.{sym, ◌∙◌}
-use Rattle.checking.proofs.Wording.{line-there, line-nowhere}
+use mathlib.Core.Path.{ap, ◌∙◌}
+use Rattle.std.specs.Option as option
+use Rattle.checking.proofs.Wording.{line-told}
 use Rattle.checking_code.proofs.reasons.is_line.Goals as goal
 
-pub returns-in-At : goal.returns-in-At
-returns-in-At c = line-there _ _ _ (sym c.in-At.is ∙ c.read_line.ensures)
-
-pub returns-in-Nothing : goal.returns-in-Nothing
-returns-in-Nothing c = line-nowhere _ (sym c.in-Nothing.is ∙ c.read_line.ensures)
+pub returns : goal.returns
+returns c = c.is_some.ensures ∙ (ap option.is_some c.read_line.ensures ∙ line-told c.args.l.now)

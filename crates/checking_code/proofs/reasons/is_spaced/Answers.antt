@@ -12,5 +12,5 @@ returns-then-starts-2 c = search (rules, rect-space)
 pub returns-then-starts-3 : goal.returns-then-starts-3
 returns-then-starts-3 c = search (rules, layer-space)
 
-pub returns : goal.returns
-returns c = search (rules, no-space)
+pub returns-else-starts-3 : goal.returns-else-starts-3
+returns-else-starts-3 c = search (rules, no-space)

@@ -9,5 +9,5 @@ returns-then-starts c = search (rules, rect-word)
 pub returns-then-starts-2 : goal.returns-then-starts-2
 returns-then-starts-2 c = search (rules, layer-word)
 
-pub returns : goal.returns
-returns c = search (rules, plan-word)
+pub returns-else-starts-2 : goal.returns-else-starts-2
+returns-else-starts-2 c = search (rules, plan-word)

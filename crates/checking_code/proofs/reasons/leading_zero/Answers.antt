@@ -1,9 +1,6 @@
-use Rattle.checking.proofs.Reasons.{leading-start, leading-found, leading-more, leading_end}
+use Rattle.checking.proofs.Reasons.{leading-found, leading-more, leading_end}
 use borrow.Author.Rules.{rules}
 use Rattle.checking_code.proofs.reasons.leading_zero.Goals as goal
-
-pub loop-i-init : goal.loop-i-init
-loop-i-init c = search (rules, leading-start)
 
 pub returns-then-zero_leads : goal.returns-then-zero_leads
 returns-then-zero_leads c = search (rules, leading-found)

@@ -13,17 +13,17 @@ returns-in_default c = seeking-none _ _ _ _ c.loop-at.invariant (omega arith) (l
 
 pub returns-then-not-in_place : goal.returns-then-not-in_place
 returns-then-not-in_place c =
-    let read : Line-at c.args.s.now c.loop-at.at c.in-At.line c.in-At.next = line_on _ _ _ _ (sym c.in-At.is ∙ c.read_line.ensures) in
+    let read : Line-at c.args.s.now c.loop-at.at c.in-Some.line c.in-Some.next = line_on _ _ _ _ (sym c.in-Some.is ∙ c.read_line.ensures) in
     seeking-other _ _ _ _ c.loop-at.invariant _ _ read (sym c.in_place.ensures ∙ c.if-not-in_place.true)
 
 pub loop-at-smaller : goal.loop-at-smaller
 loop-at-smaller c =
-    let read : Line-at c.args.s.now c.loop-at.at c.in-At.line c.in-At.next = line_on _ _ _ _ (sym c.in-At.is ∙ c.read_line.ensures) in
+    let read : Line-at c.args.s.now c.loop-at.at c.in-Some.line c.in-Some.next = line_on _ _ _ _ (sym c.in-Some.is ∙ c.read_line.ensures) in
     omega (arith, read)
 
 pub loop-at-preserved : goal.loop-at-preserved
 loop-at-preserved c =
-    let read : Line-at c.args.s.now c.loop-at.at c.in-At.line c.in-At.next = line_on _ _ _ _ (sym c.in-At.is ∙ c.read_line.ensures) in
+    let read : Line-at c.args.s.now c.loop-at.at c.in-Some.line c.in-Some.next = line_on _ _ _ _ (sym c.in-Some.is ∙ c.read_line.ensures) in
     seeking-more _ _ _ _ c.loop-at.invariant _ _ read (sym c.in_place.ensures ∙ c.if-not-in_place.false)
 
 pub returns : goal.returns

@@ -7,4 +7,4 @@ pub returns-then-is_unknown : goal.returns-then-is_unknown
 returns-then-is_unknown c = search (rules, help-unknown)
 
 pub returns : goal.returns
-returns c = search (rules, help-done)
+returns c = rw c.done.ensures (search (rules, help-done))

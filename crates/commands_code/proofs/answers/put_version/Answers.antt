@@ -4,4 +4,4 @@ use borrow.Author.Rules.{rules}
 use Rattle.commands_code.proofs.answers.put_version.Goals as goal
 
 pub returns : goal.returns
-returns c = search (rules, version-done)
+returns c = rw c.done.ensures (search (rules, version-done))

@@ -4,4 +4,4 @@ use borrow.Author.Rules.{rules}
 use Rattle.commands_code.proofs.answers.put_wanted.Goals as goal
 
 pub returns : goal.returns
-returns c = search (rules, told-wanted)
+returns c = rw c.misused.ensures (search (rules, told-wanted))

@@ -8,4 +8,4 @@ pub returns : goal.returns
 returns c =
     let fits-r : Fitting c.args.stops = search rules in
     let f = fits-r in
-    strip-read _ _ _ _ _ _ c.is_given.ensures c.is_given-2.ensures f.left f.right c.float_of_number.ensures c.float_of_number-2.ensures _ c.strip_of.ensures
+    strip-read _ _ f.left f.right _ _ c.stop_of.ensures c.stop_of-2.ensures _ c.strip_of.ensures

@@ -8,4 +8,4 @@ pub put_refused-m-requires : goal.put_refused-m-requires
 put_refused-m-requires c = search (rules, refused-room)
 
 pub returns : goal.returns
-returns c = search (rules, fault-told)
+returns c = rw c.refused.ensures (search (rules, fault-told))

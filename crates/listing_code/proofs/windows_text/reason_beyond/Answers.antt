@@ -3,11 +3,11 @@ use Rattle.listing.proofs.Windowed.{beyond-window, beyond-stated, beyond-formed}
 use borrow.Author.Rules.{rules}
 use Rattle.listing_code.proofs.windows_text.reason_beyond.Goals as goal
 
-pub returns-in_default : goal.returns-in_default
-returns-in_default c = search (rules, beyond-window)
+pub returns-in-Ok : goal.returns-in-Ok
+returns-in-Ok c = search (rules, beyond-window)
 
-pub returns-then-reason-eq-NOT_AS_STATED : goal.returns-then-reason-eq-NOT_AS_STATED
-returns-then-reason-eq-NOT_AS_STATED c = search (rules, beyond-stated)
+pub returns-in-Err-WrongWindow : goal.returns-in-Err-WrongWindow
+returns-in-Err-WrongWindow c = search (rules, beyond-stated)
 
-pub returns : goal.returns
-returns c = search (rules, beyond-formed)
+pub returns-in-Err : goal.returns-in-Err
+returns-in-Err c = search (rules, beyond-formed)

@@ -6,8 +6,8 @@ use Rattle.listing_code.proofs.windows_text.take_window.Goals as goal
 pub returns-then-t-at : goal.returns-then-t-at
 returns-then-t-at c = search (rules, no_line)
 
-pub returns-in-Window : goal.returns-in-Window
-returns-in-Window c = search (rules, line-window)
+pub returns-in-Ok : goal.returns-in-Ok
+returns-in-Ok c = search (rules, line-window)
 
-pub returns-in-Wrong : goal.returns-in-Wrong
-returns-in-Wrong c = search (rules, line-wrong)
+pub returns-in-Err : goal.returns-in-Err
+returns-in-Err c = search (rules, line-wrong)

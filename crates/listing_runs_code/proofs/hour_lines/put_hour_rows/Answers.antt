@@ -1,27 +1,24 @@
-use Prim.Native.Nat.{◌-◌}
-use Rattle.listing.proofs.Rows.{none-listed, next-there, next-is, next-room, next-listed, all_listed}
-use borrow.Author.Rules.{rules}
+-- `put_hour_rows` has the line of each row put.
+use lib.ListN.{take}
+use Rattle.plan.specs.Plan.{layers_of}
+use Rattle.rows.specs.Tables.{rows_in}
+use Rattle.listing.specs.Hours.{minutes_in}
+use Rattle.listing.proofs.Rows.{lines_each, rows_are, table-inside}
 use Rattle.listing_runs_code.proofs.hour_lines.put_hour_rows.Goals as goal
 
-pub loop-i-init : goal.loop-i-init
-loop-i-init c = search none-listed
-
-pub row_at-requires : goal.row_at-requires
-row_at-requires c = search (rules, next-there)
-
-pub put_houred-at-requires : goal.put_houred-at-requires
-put_houred-at-requires c =
+pub put_rows-requires : goal.put_rows-requires
+put_rows-requires c =
+    let t = c.requires.table_rows in
+    let ns = take c.args.k c.args.sizes.now in
     record {
-      k_in_bounds = search (rules, next-is, next-room);
-      row_value = search (rules, next-is, next-room);
-      fits_at = search (rules, next-is, next-room);
+      rows = (
+        rows_are c.args.sizes.now c.args.k c.args.cells.now c.args.table.now c.args.n t.0 (λ row e. (t.0.inside, t.0.framed, t.1, e)),
+        table-inside c.args.sizes.now c.args.k c.args.cells.now c.args.table.now c.args.n t.0,
+      );
+      fits_at = rw (lines_each (minutes_in ns c.args.hours.now) (layers_of ns c.args.cells.now) (rows_in c.args.k c.args.n c.args.table.now)) c.requires.fits_at;
     }
 
-pub loop-i-preserved : goal.loop-i-preserved
-loop-i-preserved c = search (rules, next-listed)
-
-pub shape_of-buf : goal.shape_of-buf
-shape_of-buf c = c.loop-i.invariant.left.long
-
 pub returns : goal.returns
-returns c = search (rules, all_listed)
+returns c =
+    let ns = take c.args.k c.args.sizes.now in
+    rw (← lines_each (minutes_in ns c.args.hours.now) (layers_of ns c.args.cells.now) (rows_in c.args.k c.args.n c.args.table.now)) c.put_rows.ensures

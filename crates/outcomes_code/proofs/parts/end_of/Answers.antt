@@ -1,15 +1,17 @@
-use borrow.Author.Rules.{rules}
-use Rattle.outcomes.proofs.Texts.{passed_none, passed-more, passed-all, passed_here}
+use mathlib.Core.Path.{sym, ap, ◌∙◌}
+use native.Mathlib.Omega.{arith}
+use lib.Dec.{eqb}
+use Rattle.std.specs.List.{position}
+use Rattle.std.proofs.lemmas.Slice.{between_to_end}
+use Rattle.outcomes.proofs.Texts.{found_at, found_none}
 use Rattle.outcomes_code.proofs.parts.end_of.Goals as goal
 
-pub loop-i-init : goal.loop-i-init
-loop-i-init c = search (rules, passed_none)
+pub returns-in-Some : goal.returns-in-Some
+returns-in-Some c =
+    found_at _ _ _ _ c.requires
+    (sym c.in-Some.is ∙ (c.first_of.ensures ∙ ap (position (λ b. eqb b c.args.e)) (between_to_end c.args.text.now c.args.from _ (omega arith))))
 
-pub returns-then-text-i : goal.returns-then-text-i
-returns-then-text-i c = search (rules, passed_here)
-
-pub loop-i-preserved : goal.loop-i-preserved
-loop-i-preserved c = search (rules, passed-more)
-
-pub returns : goal.returns
-returns c = search (rules, passed-all)
+pub returns-in-None : goal.returns-in-None
+returns-in-None c =
+    found_none _ _ _ c.requires
+    (sym c.in-None.is ∙ (c.first_of.ensures ∙ ap (position (λ b. eqb b c.args.e)) (between_to_end c.args.text.now c.args.from _ (omega arith))))

@@ -1,10 +1,9 @@
--- `cause_line` tells the numbers that have a line of their own.
-use Rattle.outcomes.proofs.Outcomes.{line_known, line_other}
-use borrow.Author.Rules.{rules}
+-- `cause_line`: each cause has a line of its own.
+use Rattle.std.proofs.Common.{◌≡◌, ◌≤◌, ◌∙◌, arith}
+use Rattle.plan.specs.declared.cause.Cause.{Cause}
+use Rattle.plan.specs.Causes.{number_of}
+use Rattle.outcomes.proofs.Outcomes.{line_known, number-most}
 use Rattle.outcomes_code.proofs.words.cause_line.Goals as goal
 
-pub returns-then-cause-le24 : goal.returns-then-cause-le24
-returns-then-cause-le24 c = search (rules, line_known)
-
 pub returns : goal.returns
-returns c = search (rules, line_other)
+returns c = c.from.ensures ∙ line_known _ (number-most c.args.cause)

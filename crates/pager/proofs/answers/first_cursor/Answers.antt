@@ -5,4 +5,4 @@ use Rattle.slots.specs.Frames.{frame_sizes}
 use Rattle.pager.proofs.answers.first_cursor.Goals as goal
 
 pub returns : goal.returns
-returns c = c.cursor_of.ensures ∙ ap (due_cursor (frame_sizes c.args.frame)) c.begin-start.ensures.rest
+returns c = c.cursor_of.ensures ∙ ap (due_cursor (frame_sizes c.args.walk.now.frame)) c.begin-start.ensures.rest

@@ -2,7 +2,6 @@
 use borrow.Author.Rules.{rules}
 use mathlib.Core.Bool.{false}
 use mathlib.Core.List.{[], ◌∷◌}
-use mathlib.Core.Path.{◌∙◌}
 use native.Mathlib.Omega.{arith}
 use Rattle.plan.specs.Plan.{Typed}
 use Rattle.slots.proofs.Frames.{framing-over}
@@ -12,20 +11,23 @@ use Rattle.pager.proofs.grown.first_over.Goals as goal
 pub returns-then-not-is_order : goal.returns-then-not-is_order
 returns-then-not-is_order c =
     λ cells h is.
-    c.refused_first.ensures ∙ first-refused c.args.shape cells c.args.order.now 5 (misordered false c.args.shape [] c.args.order.now (no-hours c.args.shape []) c.args.grown.now c.is_order.ensures c.if-not-is_order.true cells h is) (λ e. omega arith)
+    first-refused c.args.shape cells c.args.order.now 5 (misordered false c.args.shape [] c.args.order.now (no-hours c.args.shape []) c.args.grown.now c.is_order.ensures c.if-not-is_order.true cells h is) (λ e. omega arith)
 
-pub frame_of-requires : goal.frame_of-requires
-frame_of-requires c =
+pub frame_of-frame-requires : goal.frame_of-frame-requires
+frame_of-frame-requires c =
     let typed : Typed c.args.shape = record { sizes = search rules; margins = search rules } in
     (omega (arith, typed.sizes, c.requires.0), c.requires.1.small)
 
 pub first_cursor-requires : goal.first_cursor-requires
-first_cursor-requires c =
+first_cursor-requires c = ordered c.args.order.now c.args.grown.now c.is_order.ensures c.if-not-is_order.false
+
+pub invariant_of-walk : goal.invariant_of-walk
+invariant_of-walk c =
     let typed : Typed c.args.shape = record { sizes = search rules; margins = search rules } in
-    (framing-over c.args.shape c.args.grown.now c.frame_of.result false typed c.requires c.frame_of.ensures, ordered c.args.order.now c.args.grown.now c.is_order.ensures c.if-not-is_order.false)
+    record { framing = framing-over c.args.shape c.args.grown.now c.frame_of-frame.result false typed c.requires c.frame_of-frame.ensures }
 
 pub returns : goal.returns
 returns c =
     λ cells h is.
-    first_made c.args.shape cells c.args.order.now c.args.grown.now (0 ∷ []) c.frame_of.result
-    (admitted false c.args.shape (0 ∷ []) c.args.order.now (no-hours c.args.shape (0 ∷ [])) c.args.grown.now c.is_order.ensures c.if-not-is_order.false c.frame_of.result c.frame_of.ensures cells h is) _ c.first_cursor.ensures
+    first_made c.args.shape cells c.args.order.now c.args.grown.now (0 ∷ []) c.frame_of-frame.result
+    (admitted false c.args.shape (0 ∷ []) c.args.order.now (no-hours c.args.shape (0 ∷ [])) c.args.grown.now c.is_order.ensures c.if-not-is_order.false c.frame_of-frame.result c.frame_of-frame.ensures cells h is) _ c.first_cursor.ensures

@@ -12,18 +12,21 @@ returns-then-not-is_order c =
     page_refused c.args.timed c.args.shape cells c.args.hours.now c.args.order.now c.args.ticket c.args.counter.now c.args.budget c.args.table.now 5 (misordered c.args.timed c.args.shape c.args.hours.now c.args.order.now c.requires.hourly.0 c.args.grown.now c.is_order.ensures c.if-not-is_order.true cells h is) (λ e. omega arith) _
     c.refused_page.ensures
 
-pub frame_of-requires : goal.frame_of-requires
-frame_of-requires c =
+pub frame_of-frame-requires : goal.frame_of-frame-requires
+frame_of-frame-requires c =
     let typed : Typed c.args.shape = record { sizes = search rules; margins = search rules } in
     (omega (arith, typed.sizes, c.requires.k_in_bounds.0), c.requires.k_in_bounds.1.small)
 
 pub page_at-requires : goal.page_at-requires
-page_at-requires c =
+page_at-requires c = (ordered c.args.order.now c.args.grown.now c.is_order.ensures c.if-not-is_order.false, timing c.args.timed c.args.shape c.frame_of-frame.result c.args.hours.now c.frame_of-frame.ensures c.requires.hourly.1)
+
+pub invariant_of-walk : goal.invariant_of-walk
+invariant_of-walk c =
     let typed : Typed c.args.shape = record { sizes = search rules; margins = search rules } in
-    (framing-over c.args.shape c.args.grown.now c.frame_of.result c.args.timed typed c.requires.k_in_bounds c.frame_of.ensures, ordered c.args.order.now c.args.grown.now c.is_order.ensures c.if-not-is_order.false, timing c.args.timed c.args.shape c.frame_of.result c.args.hours.now c.frame_of.ensures c.requires.hourly.1)
+    record { framing = framing-over c.args.shape c.args.grown.now c.frame_of-frame.result c.args.timed typed c.requires.k_in_bounds c.frame_of-frame.ensures }
 
 pub returns : goal.returns
 returns c =
     λ cells h is.
-    page-made c.args.timed c.args.shape cells c.args.hours.now c.args.order.now c.args.ticket c.args.counter.now c.args.budget c.args.table.now c.args.grown.now c.frame_of.result
-    (admitted c.args.timed c.args.shape c.args.hours.now c.args.order.now c.requires.hourly.0 c.args.grown.now c.is_order.ensures c.if-not-is_order.false c.frame_of.result c.frame_of.ensures cells h is) _ _ _ c.page_at.ensures
+    page-made c.args.timed c.args.shape cells c.args.hours.now c.args.order.now c.args.ticket c.args.counter.now c.args.budget c.args.table.now c.args.grown.now c.frame_of-frame.result
+    (admitted c.args.timed c.args.shape c.args.hours.now c.args.order.now c.requires.hourly.0 c.args.grown.now c.is_order.ensures c.if-not-is_order.false c.frame_of-frame.result c.frame_of-frame.ensures cells h is) _ _ _ c.page_at.ensures

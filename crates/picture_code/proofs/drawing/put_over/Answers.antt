@@ -1,7 +1,6 @@
 -- `put_over` has the frame of the grown ground.
 use Rattle.printing.proofs.Puts.{put_same}
-use Rattle.picture.proofs.Shapes.{room-same}
-use Rattle.picture.proofs.Runs.{over-is, plan-drawable, grown-whole}
+use Rattle.picture.proofs.Runs.{room-same, over-is, plan-drawable, grown-whole}
 use borrow.Author.Rules.{rules}
 use Rattle.picture_code.proofs.drawing.put_over.Goals as goal
 

@@ -1,11 +1,6 @@
--- `put_filled` puts byte after byte. The loop's invariant: the bytes from i on are left, with the numbers from j on. The measure is how many bytes they are.
-use Prim.Native.Nat.{◌-◌}
-use lib.ListN.{length}
+-- `put_filled` writes byte after byte. The loop's invariant: the bytes from the one at the index on are left, with the numbers from j on.
 use Rattle.picture.proofs.Fills.{Filling}
 use Rattle.picture_code.proofs.fill.put_filled.Given as goal
 
-abbrev pub invariant-loop-i : goal.invariant-loop-i
-invariant-loop-i l = Filling l.text l.numbers l.initial.buf l.from l.buf l.at l.i l.j
-
-abbrev pub decreases-loop-i : goal.decreases-loop-i
-decreases-loop-i l = length l.text - l.i
+abbrev pub invariant-loop-b : goal.invariant-loop-b
+invariant-loop-b l = Filling l.text l.numbers l.initial.pen l.pen l.b-index l.j

@@ -1,64 +1,36 @@
--- `put_number` stores a number's numeral: a minus where it is below 0, and the digits of its magnitude.
+-- `put_number` writes a minus where the number is below 0, and the digits of its magnitude.
 use mathlib.Core.Path.{◌≡◌, sym, ap, ◌∙◌}
 use mathlib.Core.Bool.{true, false}
-use mathlib.Core.List.{◌∷◌}
+use mathlib.Core.List.{[], ◌∷◌}
 use Prim.Native.Nat.{ℕ}
-use native.Mathlib.Omega.{arith}
-use lib.IntN.{pos, nat_abs}
+use lib.IntN.{ℤ, pos, nat_abs}
 use lib.Signed.{lt_z}
-use lib.ListN.{length, length-set}
 use mir.Syntax.{w64}
-use mir.Val.{SFits}
+use mir.Val.{SFits, to_z, of_z}
 use mir.Facts.{to_z-of_z}
 use Rattle.decimal.specs.Numerals.{decimal, numeral}
 use Rattle.decimal.proofs.Signs.{neg-numeral, pos-numeral}
-use Rattle.lists.proofs.Stores.{put_first, put-length}
+use Rattle.pens.proofs.Pens.{room-first, room-same, room-behind, wrote-same, wrote-both}
 use Rattle.picture_code.proofs.fill.put_number.Goals as goal
 
-pub bounds-buf-at : goal.bounds-buf-at
-bounds-buf-at c =
-    let minus : numeral c.args.z ≡ 45 ∷ decimal c.size_of-n.result = let z = c.args.z in
-    let f : SFits w64 z = c.ranges.z in
-    let t : lt_z z (pos 0) ≡ true = simp to_z-of_z at c.if-z-lt0.true in
-    let e : c.size_of-n.result ≡ nat_abs z = simp to_z-of_z at c.size_of-n.ensures in
-    neg-numeral z t ∙ ap (λ (n : ℕ). 45 ∷ decimal n) (sym e) in
-    omega (arith, ap length minus)
+-- its bytes, as the code reads it
+minus : (z : ℤ) (n : ℕ) → SFits w64 z → lt_z (to_z w64 (of_z w64 z)) (pos 0) ≡ true → n ≡ nat_abs (to_z w64 (of_z w64 z)) → numeral z ≡ 45 ∷ decimal n
+minus z n f t e = neg-numeral z (simp to_z-of_z at t) ∙ ap (λ (i : ℕ). 45 ∷ decimal i) (sym (simp to_z-of_z at e))
 
-pub put_decimal-requires : goal.put_decimal-requires
-put_decimal-requires c =
-    let minus : numeral c.args.z ≡ 45 ∷ decimal c.size_of-n.result = let z = c.args.z in
-    let f : SFits w64 z = c.ranges.z in
-    let t : lt_z z (pos 0) ≡ true = simp to_z-of_z at c.if-z-lt0.true in
-    let e : c.size_of-n.result ≡ nat_abs z = simp to_z-of_z at c.size_of-n.ensures in
-    neg-numeral z t ∙ ap (λ (n : ℕ). 45 ∷ decimal n) (sym e) in
-    simp length-set (omega (arith, ap length minus))
+plain : (z : ℤ) (n : ℕ) → SFits w64 z → lt_z (to_z w64 (of_z w64 z)) (pos 0) ≡ false → n ≡ nat_abs (to_z w64 (of_z w64 z)) → numeral z ≡ decimal n
+plain z n f t e = pos-numeral z (simp to_z-of_z at t) ∙ ap decimal (sym (simp to_z-of_z at e))
 
-pub shape_of-buf-then-z-lt0 : goal.shape_of-buf-then-z-lt0
-shape_of-buf-then-z-lt0 c = put-length _ _ _ _ _ c.put_decimal.ensures ∙ simp length-set
+pub put_byte-requires : goal.put_byte-requires
+put_byte-requires c = room-first _ (45 ∷ []) (decimal c.size_of-n.result) (room-same _ _ _ (minus _ _ c.ranges.z c.if-z-lt0.true c.size_of-n.ensures) c.requires)
+
+pub put_natural-requires : goal.put_natural-requires
+put_natural-requires c = room-behind _ _ (45 ∷ []) _ c.put_byte.ensures (room-same _ _ _ (minus _ _ c.ranges.z c.if-z-lt0.true c.size_of-n.ensures) c.requires)
 
 pub returns-then-z-lt0 : goal.returns-then-z-lt0
-returns-then-z-lt0 c =
-    let minus : numeral c.args.z ≡ 45 ∷ decimal c.size_of-n.result = let z = c.args.z in
-    let f : SFits w64 z = c.ranges.z in
-    let t : lt_z z (pos 0) ≡ true = simp to_z-of_z at c.if-z-lt0.true in
-    let e : c.size_of-n.result ≡ nat_abs z = simp to_z-of_z at c.size_of-n.ensures in
-    neg-numeral z t ∙ ap (λ (n : ℕ). 45 ∷ decimal n) (sym e) in
-    rw minus (put_first c.args.buf.now _ _ c.args.at _ 45 c.put_decimal.ensures)
+returns-then-z-lt0 c = wrote-same _ _ _ (minus _ _ c.ranges.z c.if-z-lt0.true c.size_of-n.ensures) _ (wrote-both _ _ (45 ∷ []) _ c.put_byte.ensures _ c.put_natural.ensures)
 
-pub put_decimal-requires-2 : goal.put_decimal-requires-2
-put_decimal-requires-2 c =
-    let none : numeral c.args.z ≡ decimal c.size_of-n.result = let z = c.args.z in
-    let f : SFits w64 z = c.ranges.z in
-    let t : lt_z z (pos 0) ≡ false = simp to_z-of_z at c.if-z-lt0.false in
-    let e : c.size_of-n.result ≡ nat_abs z = simp to_z-of_z at c.size_of-n.ensures in
-    pos-numeral z t ∙ ap decimal (sym e) in
-    omega (arith, ap length none)
+pub put_natural-requires-2 : goal.put_natural-requires-2
+put_natural-requires-2 c = room-same _ _ _ (plain _ _ c.ranges.z c.if-z-lt0.false c.size_of-n.ensures) c.requires
 
 pub returns : goal.returns
-returns c =
-    let none : numeral c.args.z ≡ decimal c.size_of-n.result = let z = c.args.z in
-    let f : SFits w64 z = c.ranges.z in
-    let t : lt_z z (pos 0) ≡ false = simp to_z-of_z at c.if-z-lt0.false in
-    let e : c.size_of-n.result ≡ nat_abs z = simp to_z-of_z at c.size_of-n.ensures in
-    pos-numeral z t ∙ ap decimal (sym e) in
-    rw none c.put_decimal-2.ensures
+returns c = wrote-same _ _ _ (plain _ _ c.ranges.z c.if-z-lt0.false c.size_of-n.ensures) _ c.put_natural-2.ensures

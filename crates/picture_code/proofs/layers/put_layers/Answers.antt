@@ -1,10 +1,9 @@
-use Prim.Native.Nat.{◌-◌}
 use native.Mathlib.Omega.{arith}
 use Rattle.picture.proofs.Layers.{none-layered, layer-inside, layer-short, layer-drawable, layer-room, layer-more, layers-end}
 use Rattle.picture_code.proofs.layers.put_layers.Goals as goal
 
 pub loop-j-init : goal.loop-j-init
-loop-j-init c = none-layered _ _ _ _ _ _
+loop-j-init c = none-layered _ _ _ _ _ c.requires.room
 
 pub offset_bounds-sizes-j : goal.offset_bounds-sizes-j
 offset_bounds-sizes-j c =
@@ -22,7 +21,7 @@ pub overflow_cast-n : goal.overflow_cast-n
 overflow_cast-n c =
     let t = c.loop-j-test.true in
     let d = c.requires.small.1 in
-    omega (arith, layer-short _ _ _ _ _ _ _ c.loop-j.buf c.loop-j.at c.loop-j.start c.loop-j.j c.loop-j.invariant d t)
+    omega (arith, layer-short _ _ _ _ _ _ c.loop-j.pen c.loop-j.start c.loop-j.j c.loop-j.invariant d t)
 
 pub overflow_add-layer : goal.overflow_add-layer
 overflow_add-layer c =
@@ -46,43 +45,28 @@ pub layer_cells-requires : goal.layer_cells-requires
 layer_cells-requires c =
     let t = c.loop-j-test.true in
     let d = c.requires.small.1 in
-    layer-inside _ _ _ _ _ _ _ c.loop-j.buf c.loop-j.at c.loop-j.start c.loop-j.j c.loop-j.invariant d t
+    layer-inside _ _ _ _ _ _ c.loop-j.pen c.loop-j.start c.loop-j.j c.loop-j.invariant d t
 
-pub put_layer-at-requires : goal.put_layer-at-requires
-put_layer-at-requires c =
+pub put_layer-requires : goal.put_layer-requires
+put_layer-requires c =
     let t = c.loop-j-test.true in
     let d = c.requires.small.1 in
     record {
-      small = (c.requires.small.0, layer-drawable _ _ _ _ _ _ _ c.loop-j.buf c.loop-j.at c.loop-j.start c.loop-j.j c.loop-j.invariant d t _ c.layer_cells.ensures);
-      fits_at = layer-room _ _ _ _ _ _ _ c.loop-j.buf c.loop-j.at c.loop-j.start c.loop-j.j c.loop-j.invariant d t _ c.layer_cells.ensures c.requires.fits_at;
+      small = (c.requires.small.0, layer-drawable _ _ _ _ _ _ c.loop-j.pen c.loop-j.start c.loop-j.j c.loop-j.invariant d t _ c.layer_cells.ensures);
+      room = layer-room _ _ _ _ _ _ c.loop-j.pen c.loop-j.start c.loop-j.j c.loop-j.invariant d t _ c.layer_cells.ensures;
     }
 
 pub overflow_add-start : goal.overflow_add-start
 overflow_add-start c =
     let t = c.loop-j-test.true in
     let d = c.requires.small.1 in
-    omega (arith, layer-short _ _ _ _ _ _ _ c.loop-j.buf c.loop-j.at c.loop-j.start c.loop-j.j c.loop-j.invariant d t)
-
-pub overflow_add-j : goal.overflow_add-j
-overflow_add-j c =
-    let t = c.loop-j-test.true in
-    let d = c.requires.small.1 in
-    omega (arith, d.few, t)
-
-pub loop-j-smaller : goal.loop-j-smaller
-loop-j-smaller c =
-    let t = c.loop-j-test.true in
-    let d = c.requires.small.1 in
-    omega (arith, t)
+    omega (arith, layer-short _ _ _ _ _ _ c.loop-j.pen c.loop-j.start c.loop-j.j c.loop-j.invariant d t)
 
 pub loop-j-preserved : goal.loop-j-preserved
 loop-j-preserved c =
     let t = c.loop-j-test.true in
     let d = c.requires.small.1 in
-    layer-more _ _ _ _ _ _ _ c.loop-j.buf c.loop-j.at c.loop-j.start c.loop-j.j c.loop-j.invariant d t _ c.layer_cells.ensures _ _ c.put_layer-at.ensures
-
-pub shape_of-buf : goal.shape_of-buf
-shape_of-buf c = c.loop-j.invariant.left.long
+    layer-more _ _ _ _ _ _ c.loop-j.pen c.loop-j.start c.loop-j.j c.loop-j.invariant d t _ c.layer_cells.ensures _ c.put_layer.ensures
 
 pub returns : goal.returns
-returns c = layers-end _ _ _ _ _ _ _ c.loop-j.buf c.loop-j.at c.loop-j.start c.loop-j.j c.loop-j.invariant c.requires.small.1 c.loop-j-test.false
+returns c = layers-end _ _ _ _ _ _ c.loop-j.pen c.loop-j.start c.loop-j.j c.loop-j.invariant c.requires.small.1 c.loop-j-test.false

@@ -6,6 +6,3 @@ use Rattle.plan_code.proofs.checks.all_fit.Given as goal
 
 abbrev pub invariant-loop-j : goal.invariant-loop-j
 invariant-loop-j l = Fitted l.most l.k l.numbers l.j
-
-abbrev pub decreases-loop-j : goal.decreases-loop-j
-decreases-loop-j l = length l.numbers - l.j

@@ -9,14 +9,8 @@ use Rattle.plan_code.proofs.checks.all_ranged.Goals as goal
 pub loop-i-init : goal.loop-i-init
 loop-i-init c = (omega arith, refl)
 
-pub in_range-requires : goal.in_range-requires
-in_range-requires c = tt
-
 pub returns-then-not-in_range : goal.returns-then-not-in_range
 returns-then-not-in_range c = below-not (λ j. in_range (rect_at c.args.cells.now j)) _ c.loop-i.i c.loop-i-test.true (ap in_range (sym c.rect_at.ensures) ∙ (sym c.in_range.ensures ∙ c.if-not-in_range.true))
 
 pub loop-i-preserved : goal.loop-i-preserved
 loop-i-preserved c = (omega arith, below_more (λ j. in_range (rect_at c.args.cells.now j)) c.loop-i.i c.loop-i.invariant.1 (ap in_range (sym c.rect_at.ensures) ∙ (sym c.in_range.ensures ∙ c.if-not-in_range.false)))
-
-pub returns : goal.returns
-returns c = below_end (λ j. in_range (rect_at c.args.cells.now j)) c.loop-i.i _ c.loop-i.invariant.1 c.loop-i.invariant.0 c.loop-i-test.false

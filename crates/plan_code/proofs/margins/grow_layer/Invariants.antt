@@ -6,6 +6,3 @@ use Rattle.plan_code.proofs.margins.grow_layer.Given as goal
 
 abbrev pub invariant-loop-p : goal.invariant-loop-p
 invariant-loop-p l = Enlarged l.margin (rect_at l.cells) l.size l.initial.run l.at l.run l.to l.p
-
-abbrev pub decreases-loop-p : goal.decreases-loop-p
-decreases-loop-p l = l.size - l.p

@@ -49,9 +49,6 @@ overflow_add-start c =
     let within : let a = c.args in c.loop-j.start + get_or a.sizes.now c.loop-j.j 0 ≤ sum (take a.k a.sizes.now) = let l = c.loop-j in spread-within _ _ _ _ l.run l.at l.start l.j l.invariant one _ size in
     omega (arith, within, c.requires.reach.whole)
 
-pub loop-j-smaller : goal.loop-j-smaller
-loop-j-smaller c = omega (arith, c.loop-j-test.true)
-
 pub loop-j-preserved : goal.loop-j-preserved
 loop-j-preserved c =
     let one : let a = c.args in c.loop-j.j < length (take a.k a.sizes.now) = omega (arith, length-take-le c.args.k c.args.sizes.now c.requires.sized, c.loop-j-test.true) in

@@ -6,6 +6,3 @@ use Rattle.plan_code.proofs.margins.grow_layers.Given as goal
 
 abbrev pub invariant-loop-j : goal.invariant-loop-j
 invariant-loop-j l = Spread (take l.k l.sizes) l.margins l.cells l.initial.run l.run l.at l.start l.j
-
-abbrev pub decreases-loop-j : goal.decreases-loop-j
-decreases-loop-j l = l.k - l.j

@@ -14,22 +14,22 @@ use Rattle.reader.proofs.decide.decide.Goals as goal
 pub returns-in_default : goal.returns-in_default
 returns-in_default c =
     let s = c.args.s.now in
-    refused-form s _ 9 _ (λ z. omega arith) (sym (ap form_cause (lines_none s (line-bad s 0 (sym c.in_default.is ∙ c.read_line.ensures))))) c.refuse.ensures
+    refused-form s _ 9 (λ z. omega arith) (sym (ap form_cause (lines_none s (line-bad s 0 (sym c.in_default.is ∙ c.read_line.ensures)))))
 
 pub decide_on-requires : goal.decide_on-requires
 decide_on-requires c =
-    let first : Line-at c.args.s.now 0 c.in-At.line c.in-At.next = line_on _ _ _ _ (sym c.in-At.is ∙ c.read_line.ensures) in
+    let first : Line-at c.args.s.now 0 c.in-Some.line c.in-Some.next = line_on _ _ _ _ (sym c.in-Some.is ∙ c.read_line.ensures) in
     let f : SFits w32 c.in-Plan.k = search rules in
     simp to_z-of_z (rw c.in-Plan.is at first)
 
 pub returns-in-Layer : goal.returns-in-Layer
 returns-in-Layer c =
-    let first : Line-at c.args.s.now 0 c.in-At.line c.in-At.next = line_on _ _ _ _ (sym c.in-At.is ∙ c.read_line.ensures) in
+    let first : Line-at c.args.s.now 0 c.in-Some.line c.in-Some.next = line_on _ _ _ _ (sym c.in-Some.is ∙ c.read_line.ensures) in
     let s = c.args.s.now in
-    refused-form s _ 9 _ (λ z. omega arith) (sym (ap form_cause (lines_other s _ _ (ap inner c.in-Layer.is) first))) c.refuse-in-Layer.ensures
+    refused-form s _ 9 (λ z. omega arith) (sym (ap form_cause (lines_other s _ _ (ap inner c.in-Layer.is) first)))
 
 pub returns-in-Rectangle : goal.returns-in-Rectangle
 returns-in-Rectangle c =
-    let first : Line-at c.args.s.now 0 c.in-At.line c.in-At.next = line_on _ _ _ _ (sym c.in-At.is ∙ c.read_line.ensures) in
+    let first : Line-at c.args.s.now 0 c.in-Some.line c.in-Some.next = line_on _ _ _ _ (sym c.in-Some.is ∙ c.read_line.ensures) in
     let s = c.args.s.now in
-    refused-form s _ 9 _ (λ z. omega arith) (sym (ap form_cause (lines_other s _ _ (ap inner c.in-Rectangle.is) first))) c.refuse-in-Rectangle.ensures
+    refused-form s _ 9 (λ z. omega arith) (sym (ap form_cause (lines_other s _ _ (ap inner c.in-Rectangle.is) first)))

@@ -17,17 +17,17 @@ add_line-t-requires c = c.loop-at.invariant.few
 
 pub returns-then-not-t : goal.returns-then-not-t
 returns-then-not-t c =
-    let read : Line-at c.args.s.now c.loop-at.at c.in-At.line c.in-At.next = line_on _ _ _ _ (sym c.in-At.is ∙ c.read_line.ensures) in
+    let read : Line-at c.args.s.now c.loop-at.at c.in-Some.line c.in-Some.next = line_on _ _ _ _ (sym c.in-Some.is ∙ c.read_line.ensures) in
     counting-stop _ _ c.loop-at.at c.loop-at.t c.loop-at.invariant _ _ read _ c.add_line-t.ensures (not-true _ c.if-not-t.true)
 
 pub loop-at-smaller : goal.loop-at-smaller
 loop-at-smaller c =
-    let read : Line-at c.args.s.now c.loop-at.at c.in-At.line c.in-At.next = line_on _ _ _ _ (sym c.in-At.is ∙ c.read_line.ensures) in
+    let read : Line-at c.args.s.now c.loop-at.at c.in-Some.line c.in-Some.next = line_on _ _ _ _ (sym c.in-Some.is ∙ c.read_line.ensures) in
     omega (arith, read)
 
 pub loop-at-preserved : goal.loop-at-preserved
 loop-at-preserved c =
-    let read : Line-at c.args.s.now c.loop-at.at c.in-At.line c.in-At.next = line_on _ _ _ _ (sym c.in-At.is ∙ c.read_line.ensures) in
+    let read : Line-at c.args.s.now c.loop-at.at c.in-Some.line c.in-Some.next = line_on _ _ _ _ (sym c.in-Some.is ∙ c.read_line.ensures) in
     counting_more _ _ c.loop-at.at c.loop-at.t c.loop-at.invariant _ _ read _ c.add_line-t.ensures (not-false _ c.if-not-t.false)
 
 pub returns : goal.returns

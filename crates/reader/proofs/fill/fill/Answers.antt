@@ -16,17 +16,17 @@ returns-in_default c = filling-bad _ _ _ _ c.loop-at.at c.loop-at.i c.loop-at.in
 
 pub put_line-i-requires : goal.put_line-i-requires
 put_line-i-requires c =
-    let read : Line-at c.args.s.now c.loop-at.at c.in-At.line c.in-At.next = line_on _ _ _ _ (sym c.in-At.is ∙ c.read_line.ensures) in
+    let read : Line-at c.args.s.now c.loop-at.at c.in-Some.line c.in-Some.next = line_on _ _ _ _ (sym c.in-Some.is ∙ c.read_line.ensures) in
     filling-room _ _ _ _ _ _ c.loop-at.invariant _ _ read c.requires.fits
 
 pub loop-at-smaller : goal.loop-at-smaller
 loop-at-smaller c =
-    let read : Line-at c.args.s.now c.loop-at.at c.in-At.line c.in-At.next = line_on _ _ _ _ (sym c.in-At.is ∙ c.read_line.ensures) in
+    let read : Line-at c.args.s.now c.loop-at.at c.in-Some.line c.in-Some.next = line_on _ _ _ _ (sym c.in-Some.is ∙ c.read_line.ensures) in
     omega (arith, read)
 
 pub loop-at-preserved : goal.loop-at-preserved
 loop-at-preserved c =
-    let read : Line-at c.args.s.now c.loop-at.at c.in-At.line c.in-At.next = line_on _ _ _ _ (sym c.in-At.is ∙ c.read_line.ensures) in
+    let read : Line-at c.args.s.now c.loop-at.at c.in-Some.line c.in-Some.next = line_on _ _ _ _ (sym c.in-Some.is ∙ c.read_line.ensures) in
     filling-more _ _ _ _ _ _ c.loop-at.invariant _ _ read _ _ c.put_line-i.ensures
 
 pub shape_of-cells : goal.shape_of-cells

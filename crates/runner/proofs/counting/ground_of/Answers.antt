@@ -16,24 +16,24 @@ by_rows-requires c = (rows-by c.requires.rows.0, c.requires.rows.1)
 pub by_rows-requires-then-rows-n : goal.by_rows-requires-then-rows-n
 by_rows-requires-then-rows-n c = (rows-by c.requires.rows.0, c.requires.rows.1)
 
-pub overflow_mul-frame : goal.overflow_mul-frame
-overflow_mul-frame c =
-    let long : (length c.args.order.now ≡ count c.args.cells.now) × (length c.args.order.now ≤ 3072) = let f = c.requires.swept.framing.plan in
-    let e = ap length c.requires.swept.ordered ∙ (sweep-is c.args.cells.now).long in
+pub overflow_mul-walk : goal.overflow_mul-walk
+overflow_mul-walk c =
+    let long : (length c.args.walk.now.order.now ≡ count c.args.walk.now.cells.now) × (length c.args.walk.now.order.now ≤ 3072) = let f = c.requires.swept.framing.plan in
+    let e = ap length c.requires.swept.ordered ∙ (sweep-is c.args.walk.now.cells.now).long in
     (e, omega (arith, e, f.whole, f.few, sum-small f.small)) in
     let f = c.requires.swept.framing in
-    record { fits = omega (arith, mul-le-mul_right (2 * length c.args.order.now + 1) f.few, long.1) }
+    record { fits = omega (arith, mul-le-mul_right (2 * length c.args.walk.now.order.now + 1) f.few, long.1) }
 
-pub by_rows-requires-then-work-frame : goal.by_rows-requires-then-work-frame
-by_rows-requires-then-work-frame c = (rows-by c.requires.rows.0, c.requires.rows.1)
+pub by_rows-requires-then-work-walk : goal.by_rows-requires-then-work-walk
+by_rows-requires-then-work-walk c = (rows-by c.requires.rows.0, c.requires.rows.1)
 
 pub union_of_layers-requires : goal.union_of_layers-requires
 union_of_layers-requires c =
-    let long : (length c.args.order.now ≡ count c.args.cells.now) × (length c.args.order.now ≤ 3072) = let f = c.requires.swept.framing.plan in
-    let e = ap length c.requires.swept.ordered ∙ (sweep-is c.args.cells.now).long in
+    let long : (length c.args.walk.now.order.now ≡ count c.args.walk.now.cells.now) × (length c.args.walk.now.order.now ≤ 3072) = let f = c.requires.swept.framing.plan in
+    let e = ap length c.requires.swept.ordered ∙ (sweep-is c.args.walk.now.cells.now).long in
     (e, omega (arith, e, f.whole, f.few, sum-small f.small)) in
     let w = c.requires.swept in
-    (w.framing, w.ordered, rw long.0 at c.if-work-frame.false)
+    (c.requires.swept.ordered, rw long.0 at c.if-work-walk.false)
 
 pub returns : goal.returns
-returns c = c.union_of_layers.ensures ∙ layers-by _ c.args.frame c.args.shape.sizes c.args.shape.k c.args.cells.now c.args.order.now c.args.table.now c.args.rows c.requires.rows.0 c.requires.swept c.if-frame.false
+returns c = c.union_of_layers.ensures ∙ layers-by _ c.args.walk.now.frame c.args.shape.sizes c.args.shape.k c.args.walk.now.cells.now c.args.walk.now.order.now c.args.table.now c.args.rows c.requires.rows.0 c.requires.swept c.if-walk.false

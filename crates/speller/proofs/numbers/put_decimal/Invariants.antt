@@ -1,11 +1,7 @@
 -- `put_decimal` stores a number's digits, the last one first. The loop's invariant: the digits from i to the end are stored, and m is what stands before them.
--- The measure is i.
 use Prim.Native.Nat.{◌≤◌}
 use Rattle.speller.proofs.Decimals.{Stored}
 use Rattle.speller.proofs.numbers.put_decimal.Given as goal
 
 abbrev pub invariant-loop-i : goal.invariant-loop-i
 invariant-loop-i l = (l.at ≤ l.i) × Stored l.initial.buf l.n l.end l.buf l.i l.m
-
-abbrev pub decreases-loop-i : goal.decreases-loop-i
-decreases-loop-i l = l.i

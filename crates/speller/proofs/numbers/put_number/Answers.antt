@@ -1,59 +1,23 @@
--- `put_number` stores a number's numeral: a minus where it is below 0, and the digits of its magnitude.
-use mathlib.Core.Path.{◌≡◌, sym, ap, ◌∙◌}
-use mathlib.Core.Bool.{true, false}
-use mathlib.Core.List.{◌∷◌}
-use Prim.Native.Nat.{ℕ}
+-- `put_number` writes a minus where the number is below 0, and the digits of its magnitude.
+use mathlib.Core.Path.{ap}
+use mathlib.Core.List.{[], ◌∷◌}
 use native.Mathlib.Omega.{arith}
-use lib.IntN.{pos, nat_abs}
-use lib.Signed.{lt_z}
-use lib.ListN.{length, length-set}
-use mir.Syntax.{w32}
-use mir.Val.{SFits}
-use mir.Facts.{to_z-of_z}
-use Rattle.decimal.specs.Numerals.{decimal, numeral}
-use Rattle.decimal.proofs.Signs.{neg-numeral, pos-numeral}
-use Rattle.lists.proofs.Stores.{put_first, put-length}
+use lib.ListN.{length}
+use Rattle.decimal.proofs.Signs.{minus_first, digits_alone}
+use Rattle.pens.proofs.Pens.{room-behind, wrote-both}
 use Rattle.speller.proofs.numbers.put_number.Goals as goal
 
-pub bounds-buf-at : goal.bounds-buf-at
-bounds-buf-at c =
-    let minus : numeral c.args.z ≡ 45 ∷ decimal c.magnitude_of-n.result = let f : SFits w32 c.args.z = c.ranges.z in
-    let t : lt_z c.args.z (pos 0) ≡ true = simp to_z-of_z at c.if-z-lt0.true in
-    let e : c.magnitude_of-n.result ≡ nat_abs c.args.z = simp to_z-of_z at c.magnitude_of-n.ensures in
-    neg-numeral c.args.z t ∙ ap (λ (n : ℕ). 45 ∷ decimal n) (sym e) in
-    omega (arith, ap length minus)
+pub put_byte-requires : goal.put_byte-requires
+put_byte-requires c = omega (arith, ap length (minus_first c.args.z _ c.ranges.z c.if-z-lt0.true c.unsigned_abs-n.ensures.value))
 
-pub put_decimal-requires : goal.put_decimal-requires
-put_decimal-requires c =
-    let minus : numeral c.args.z ≡ 45 ∷ decimal c.magnitude_of-n.result = let f : SFits w32 c.args.z = c.ranges.z in
-    let t : lt_z c.args.z (pos 0) ≡ true = simp to_z-of_z at c.if-z-lt0.true in
-    let e : c.magnitude_of-n.result ≡ nat_abs c.args.z = simp to_z-of_z at c.magnitude_of-n.ensures in
-    neg-numeral c.args.z t ∙ ap (λ (n : ℕ). 45 ∷ decimal n) (sym e) in
-    simp length-set (omega (arith, ap length minus))
-
-pub shape_of-buf-then-z-lt0 : goal.shape_of-buf-then-z-lt0
-shape_of-buf-then-z-lt0 c = put-length _ _ _ _ _ c.put_decimal.ensures ∙ simp length-set
+pub put_natural-requires : goal.put_natural-requires
+put_natural-requires c = room-behind _ _ (45 ∷ []) _ c.put_byte.ensures (rw (minus_first c.args.z _ c.ranges.z c.if-z-lt0.true c.unsigned_abs-n.ensures.value) at c.requires)
 
 pub returns-then-z-lt0 : goal.returns-then-z-lt0
-returns-then-z-lt0 c =
-    let minus : numeral c.args.z ≡ 45 ∷ decimal c.magnitude_of-n.result = let f : SFits w32 c.args.z = c.ranges.z in
-    let t : lt_z c.args.z (pos 0) ≡ true = simp to_z-of_z at c.if-z-lt0.true in
-    let e : c.magnitude_of-n.result ≡ nat_abs c.args.z = simp to_z-of_z at c.magnitude_of-n.ensures in
-    neg-numeral c.args.z t ∙ ap (λ (n : ℕ). 45 ∷ decimal n) (sym e) in
-    rw minus (put_first c.args.buf.now _ _ c.args.at _ 45 c.put_decimal.ensures)
+returns-then-z-lt0 c = rw (minus_first c.args.z _ c.ranges.z c.if-z-lt0.true c.unsigned_abs-n.ensures.value) (wrote-both _ _ (45 ∷ []) _ c.put_byte.ensures _ c.put_natural.ensures)
 
-pub put_decimal-requires-2 : goal.put_decimal-requires-2
-put_decimal-requires-2 c =
-    let none : numeral c.args.z ≡ decimal c.magnitude_of-n.result = let f : SFits w32 c.args.z = c.ranges.z in
-    let t : lt_z c.args.z (pos 0) ≡ false = simp to_z-of_z at c.if-z-lt0.false in
-    let e : c.magnitude_of-n.result ≡ nat_abs c.args.z = simp to_z-of_z at c.magnitude_of-n.ensures in
-    pos-numeral c.args.z t ∙ ap decimal (sym e) in
-    omega (arith, ap length none)
+pub put_natural-requires-2 : goal.put_natural-requires-2
+put_natural-requires-2 c = omega (arith, ap length (digits_alone c.args.z _ c.ranges.z c.if-z-lt0.false c.unsigned_abs-n.ensures.value))
 
 pub returns : goal.returns
-returns c =
-    let none : numeral c.args.z ≡ decimal c.magnitude_of-n.result = let f : SFits w32 c.args.z = c.ranges.z in
-    let t : lt_z c.args.z (pos 0) ≡ false = simp to_z-of_z at c.if-z-lt0.false in
-    let e : c.magnitude_of-n.result ≡ nat_abs c.args.z = simp to_z-of_z at c.magnitude_of-n.ensures in
-    pos-numeral c.args.z t ∙ ap decimal (sym e) in
-    rw none c.put_decimal-2.ensures
+returns c = rw (digits_alone c.args.z _ c.ranges.z c.if-z-lt0.false c.unsigned_abs-n.ensures.value) c.put_natural-2.ensures

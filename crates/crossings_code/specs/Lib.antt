@@ -1,0 +1,2 @@
+-- What the functions over segments promise one another.
+pub mod Lies
