@@ -1,9 +1,9 @@
 // Tickets, strips and the answers of calls put into cells, and read from them. The layout is defined in the crate `cells`.
 #![tactic(auto)]
 
-ghost use Rattle.std.specs.Prelude.{◌≡◌, [], ◌∷◌, ◌+◌, ◌*◌, pos};
+ghost use Rattle.std.specs.Prelude.{◌≡◌, ℕ, [], ◌∷◌, ◌+◌, ◌*◌, pos};
 ghost use Rattle.geometry.specs.Rectangles.{letter_of};
-ghost use Rattle.plan.specs.Causes.{refusal, by_number};
+ghost use Rattle.plan.specs.Causes.{refusal, read_by, by_number};
 ghost use Rattle.rows.specs.RowCall.{row_values, common_values};
 ghost use Rattle.pairs.specs.PairCall.{pair_values};
 ghost use Rattle.windows.specs.HoursCall.{hours_values};
@@ -33,8 +33,8 @@ pub fn number_of<T>(answer: &Result<T, Cause>) -> u32
 }
 
 // The size that an answer tells, 0 for a refusal.
-pub fn size_in(answer: Result<usize, Cause>) -> usize
-    ensures { result ≡ length_of (by_number answer) }
+pub fn size_in<E: Copy>(answer: Result<usize, E>) -> usize
+    ensures { (f : E → ℕ) → result ≡ length_of (read_by f answer) }
 {
     match answer {
         Ok(size) => size,
@@ -43,8 +43,8 @@ pub fn size_in(answer: Result<usize, Cause>) -> usize
 }
 
 // The cells of a row call's answer.
-pub fn row_cells(answer: Result<Option<Row>, Cause>) -> [u64; 2]
-    ensures { result ≡ row_cells (row_values (by_number answer)) }
+pub fn row_cells<E: Copy>(answer: Result<Option<Row>, E>) -> [u64; 2]
+    ensures { (f : E → ℕ) → result ≡ row_cells (row_values (read_by f answer)) }
 {
     match answer {
         Err(_) => [0, 0],
@@ -54,8 +54,8 @@ pub fn row_cells(answer: Result<Option<Row>, Cause>) -> [u64; 2]
 }
 
 // The cells of the answer on a row's common ground.
-pub fn common_cells(answer: Result<Option<CommonGround>, Cause>) -> [i32; 5]
-    ensures { result ≡ common_cells (common_values (by_number answer)) }
+pub fn common_cells<E: Copy>(answer: Result<Option<CommonGround>, E>) -> [i32; 5]
+    ensures { (f : E → ℕ) → result ≡ common_cells (common_values (read_by f answer)) }
 {
     match answer {
         Err(_) => [0, 0, 0, 0, 0],
@@ -73,8 +73,8 @@ fn ground_cells(r: Rect, kind: Kind) -> [i32; 5]
 }
 
 // The cells of a pair call's answer.
-pub fn pair_cells(answer: Result<Option<Pair>, Cause>) -> [u64; 2]
-    ensures { result ≡ pair_cells (pair_values (by_number answer)) }
+pub fn pair_cells<E: Copy>(answer: Result<Option<Pair>, E>) -> [u64; 2]
+    ensures { (f : E → ℕ) → result ≡ pair_cells (pair_values (read_by f answer)) }
 {
     match answer {
         Err(_) => [0, 0],
@@ -84,8 +84,8 @@ pub fn pair_cells(answer: Result<Option<Pair>, Cause>) -> [u64; 2]
 }
 
 // The cells of the answer of the call for a row's shared minutes.
-pub fn hours_cells(answer: Result<Option<Window>, Cause>) -> [u32; 2]
-    ensures { result ≡ hours_cells (hours_values (by_number answer)) }
+pub fn hours_cells<E: Copy>(answer: Result<Option<Window>, E>) -> [u32; 2]
+    ensures { (f : E → ℕ) → result ≡ hours_cells (hours_values (read_by f answer)) }
 {
     match answer {
         Err(_) => [0, 0],
@@ -180,7 +180,7 @@ pub fn stop_number(stop: Stop) -> u32
         Stop::Ended => 0,
         Stop::Full => 0,
         Stop::Spent => 0,
-        Stop::Refused(cause) => u32::from(cause),
+        Stop::Refused(cause) => cause,
     }
 }
 
@@ -224,8 +224,8 @@ pub fn ticket_after(given: &[u32; 12], page: Page) -> [u32; 12]
 }
 
 // The cells of a whole run's answer.
-pub fn run_cells(answer: Result<Done, Cause>) -> [u64; 6]
-    ensures { result ≡ run_cells (run_values (by_number answer)) }
+pub fn run_cells<E: Copy>(answer: Result<Done, E>) -> [u64; 6]
+    ensures { (f : E → ℕ) → result ≡ run_cells (run_values (read_by f answer)) }
 {
     match answer {
         Err(_) => [0, 0, 0, 0, 0, 0],

@@ -31,7 +31,7 @@ use crossings_code::{class_cell, class_of};
 use nearest_code::{near_cells, nearest};
 use pager::{fetch_page, fresh_ticket, timed_page};
 use pairs_code::apart_pair;
-use plan::Shape;
+use plan::{Cause, Shape};
 use plan_code::{check_plan, rect_at};
 use reader::read;
 use rounds_code::round;
@@ -590,7 +590,7 @@ pub extern "C" fn overlay_crossing_report(
     match crossing_report(shape, cells, order, table, work) {
         Ok(report) => {
             let seventeen = report.counts;
-            *answer = run_cells(Ok(report.run));
+            *answer = run_cells::<Cause>(Ok(report.run));
             *counts = seventeen;
             0
         }

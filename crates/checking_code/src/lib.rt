@@ -57,7 +57,7 @@ fn check_text(text: &[u8], cells: &mut [i32], out: &mut [u8], err: &mut [u8]) ->
     match read(text, cells) {
         Ok(shape) => Reply::done(put_plan(out, shape)),
         Err(cause) => {
-            let m = put_refused(out, 0, cause);
+            let m = put_refused(out, 0, u32::from(cause));
             let n = put_why(text, cause, err);
             Reply::refused(m, n)
         }

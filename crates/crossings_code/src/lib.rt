@@ -1,8 +1,8 @@
 // The class of a row whose last two rectangles are segments (02, Q-2), and the checks 15 and 16. What they are is defined in the crate `crossings`.
 #![tactic(auto)]
 
-ghost use Rattle.std.specs.Prelude.{◌≡◌, [], true, ◌+◌, ◌*◌, ◌<◌, ◌≤◌, length, get_or};
-ghost use Rattle.plan.specs.Causes.{refusal, by_number};
+ghost use Rattle.std.specs.Prelude.{◌≡◌, ℕ, [], true, ◌+◌, ◌*◌, ◌<◌, ◌≤◌, length, get_or};
+ghost use Rattle.plan.specs.Causes.{refusal, read_by, by_number};
 ghost use Rattle.plan.specs.Plan.{rect_at, layers_of};
 ghost use Rattle.plan.specs.Frames.{Framed};
 ghost use Rattle.join.specs.Join.{rects, common_of};
@@ -166,8 +166,8 @@ fn covers_point(r: Rect, x: i32, y: i32) -> bool
 }
 
 // The class in a class call's answer: 17 where there is no row, 0 for a refusal.
-pub fn class_cell(answer: Result<Option<u32>, Cause>) -> u32
-    ensures { result ≡ (class_values (by_number answer)).class }
+pub fn class_cell<E: Copy>(answer: Result<Option<u32>, E>) -> u32
+    ensures { (f : E → ℕ) → result ≡ (class_values (read_by f answer)).class }
 {
     match answer {
         Err(_) => 0,

@@ -2,13 +2,14 @@
 use mathlib.Core.Path.{◌≡◌, refl, sym, ap, ◌∙◌, subst}
 use mathlib.Core.Bool.{Bool, true, false, cond}
 use mathlib.Core.Logic.{◌⊎◌, inl, inr}
-use Prim.Native.Nat.{ℕ, zero, suc, ◌/◌, ◌^◌, ◌≤◌, ◌<◌, max}
+use Prim.Native.Nat.{ℕ, zero, suc, ◌+◌, ◌/◌, ◌^◌, ◌≤◌, ◌<◌, max}
 use native.Mathlib.Nat.{le_refl, pow-suc, le-div_iff_mul-le, div-lt_iff_lt-mul, mul_comm, one-mul}
+use native.Mathlib.Numerals.{add-one}
 use native.Mathlib.Omega.{arith}
 use lib.Dec.{leb}
 use lib.IntN.{ℤ, pos, negsuc, nat_abs}
 use lib.ListN.{length}
-use borrow.Author.Tests.{leb-true, leb-false}
+use borrow.Author.Tests.{leb-true, leb-false, le-leb}
 use Rattle.lists.proofs.Tests.{total}
 use Rattle.decimal.specs.Numerals.{digits, size, decimal, numeral}
 use Rattle.decimal.proofs.Powers.{powers, positive, below_next}
@@ -59,6 +60,14 @@ pub size_below : (m n : ℕ) → m ≤ 19 → n < 10 ^ suc m → size 19 n ≤ s
 size_below m n l h =
     let s = sized 19 n (omega (arith, powers (suc m) 20 (omega arith))) in
     omega (arith, s.2, sized-few s.0 m n s.3 h)
+
+-- n is told by the powers that it lies between; 10^19 and above have twenty digits
+pub size_low : (n c : ℕ) → c < 19 → 10 ^ c ≤ max n 1 → n < 10 ^ (c + 1) → c + 1 ≡ size 19 n
+size_low n c h l k = add-one c ∙ sym (size_is 19 c n (omega arith) (record { least = l; below = rw add-one at k }))
+
+pub size-last : (n : ℕ) → 10 ^ 19 ≤ n → 20 ≡ size 19 n
+unfolding size
+size-last n h = rw (le-leb (10 ^ 19) n h)
 
 -- as many digits as are asked for, and never more than there are powers
 pub length_digits : (c n : ℕ) → length (digits c n) ≡ c

@@ -18,7 +18,7 @@ pub fn put_fault(out: &mut [u8], err: &mut [u8], fault: Fault) -> Reply
     requires { Room out.old err.old }
     ensures { Told (refused_with 24 (fault_line (fault_told fault))) out.old err.old out.new err.new result }
 {
-    let m = put_refused(out, 0, Cause::WrongWindow);
+    let m = put_refused(out, 0, u32::from(Cause::WrongWindow));
     let n = put_fault_line(err, fault);
     Reply::refused(m, n)
 }

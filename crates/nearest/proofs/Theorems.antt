@@ -94,6 +94,7 @@ nearest-holds = record {
   gaps = λ a r h k. gap-holds a r h k;
   bound = gap-most;
   told = told;
+  values = λ entries n. (refl, refl);
   long = λ r. ap length (sym (cells-made r));
   cells = λ r j h e k. entry-told r j h ∙ ap entry_cells k;
   no_cells = λ r j h k. entry-told r j h ∙ ap entry_cells k;

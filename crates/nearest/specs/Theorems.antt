@@ -1,5 +1,5 @@
 -- Theorem: what is promised of the nearest rectangles, for every plan and box. Proved in proofs/Theorems.antt.
-use Rattle.std.specs.Prelude.{◌≡◌, List, [], ◌∷◌, true, ◌↔◌, ℕ, ◌+◌, ◌*◌, ◌≤◌, ◌<◌, ℤ, pos, nat_abs, ◌-ℤ◌, length, get_or, take, drop, Option, Some, None}
+use Rattle.std.specs.Prelude.{◌≡◌, List, [], ◌∷◌, true, ◌↔◌, ℕ, ◌+◌, ◌*◌, ◌≤◌, ◌<◌, ℤ, pos, nat_abs, ◌-ℤ◌, length, get_or, take, drop, Option, Some, None, Ok, Err}
 use Rattle.geometry.specs.declared.Rect.{Rect}
 use Rattle.geometry.specs.Rectangles.{In, nonempty, meets, held}
 use Rattle.geometry.specs.Theorems.{Ranged}
@@ -53,6 +53,9 @@ pub record NearestHolds : Type 0 where
   -- 10,050,000, as in every plan, which fits 64 bits
   pub bound : (m n : ℕ) (a r : Rect) → held (pos m) a ≡ true → held (pos n) r ≡ true → squared_gap a r ≤ 2 * ((m + n) * (m + n))
   pub told : (s : Shape) (cells : List ℤ) (a : Rect) → NearestTold s cells a
+  -- the number and the entries that each answer stands for; a refusal's are six with nothing found
+  pub values : (entries : List (Option Near)) (n : ℕ) → (nearest_values (Ok entries) ≡ record { number = 0; layers = entries })
+      × (nearest_values (Err n) ≡ record { number = n; layers = None ∷ None ∷ None ∷ None ∷ None ∷ None ∷ [] })
   -- as cells, three for each layer: found (0 or 1), place, gap; where nothing is found, "with place and gap 0"
   pub long : (r : NearestValues) → length (near_cells r) ≡ 18
   pub cells : (r : NearestValues) (j : ℕ) → j < 6 → (e : Near) → entry r j ≡ Some e → take 3 (drop (3 * j) (near_cells r)) ≡ 1 ∷ e.place ∷ e.gap ∷ []

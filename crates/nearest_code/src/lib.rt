@@ -3,9 +3,9 @@
 // Rectangles are reached by the plan's layers alone. After the checks they are grown, where a layer has a margin, and then each is looked at once.
 #![tactic(auto)]
 
-ghost use Rattle.std.specs.Prelude.{◌≡◌, true, ◌*◌, ◌<◌};
+ghost use Rattle.std.specs.Prelude.{◌≡◌, ℕ, true, ◌*◌, ◌<◌};
 ghost use Rattle.geometry.specs.Rectangles.{in_range, in_extent};
-ghost use Rattle.plan.specs.Causes.{refusal, by_number};
+ghost use Rattle.plan.specs.Causes.{refusal, read_by, by_number};
 ghost use Rattle.plan.specs.Plan.{rect_at, layers_of};
 ghost use Rattle.plan.specs.Spots.{layer_at};
 ghost use Rattle.plan.specs.Frames.{Framed};
@@ -38,8 +38,8 @@ pub fn nearest(
 }
 
 // An answer as cells, three for each layer: whether anything was found (0 or 1), its place, the squared gap.
-pub fn near_cells(answer: Result<[Option<Near>; MOST_LAYERS], Cause>) -> [u64; 18]
-    ensures { result ≡ near_cells (nearest_values (by_number answer)) }
+pub fn near_cells<E: Copy>(answer: Result<[Option<Near>; MOST_LAYERS], E>) -> [u64; 18]
+    ensures { (f : E → ℕ) → result ≡ near_cells (nearest_values (read_by f answer)) }
 {
     match answer {
         Ok(layers) => six_cells(layers),

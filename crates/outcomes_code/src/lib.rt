@@ -24,7 +24,7 @@ pub fn put_refusal(out: &mut [u8], err: &mut [u8], cause: Cause) -> Reply
     requires { Room out.old err.old }
     ensures { Told (refused (number_of cause)) out.old err.old out.new err.new result }
 {
-    let m = put_refused(out, 0, cause);
+    let m = put_refused(out, 0, u32::from(cause));
     let n = put_cause(err, cause);
     Reply::refused(m, n)
 }

@@ -41,7 +41,7 @@ abbrev pub stop_told : StopSaid → Stop
 stop_told said.Ended = Ended
 stop_told said.Full = Full
 stop_told said.Spent = Spent
-stop_told (said.Refused c) = Refused (number_of c)
+stop_told (said.Refused n) = Refused n
 
 abbrev pub page_told : Page → PageValues
 page_told p = record { stop = stop_told p.stop; rows = p.rows; probes = p.probes; area = p.area; ticket = p.ticket }

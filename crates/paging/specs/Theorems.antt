@@ -25,7 +25,7 @@ use Rattle.paging.specs.declared.Ticket.{Ticket}
 use Rattle.paging.specs.declared.Page.{Page}
 use Rattle.paging.specs.declared.Stop.TheVariants as said
 use Rattle.paging.specs.Answers.{PageValues, fresh_told, stop_told, page_told}
-use Rattle.paging.specs.Answers.{Run, ran}
+use Rattle.paging.specs.Answers.{Run}
 use Rattle.paging.specs.Overlays.{Overlay, overlay_of}
 use Rattle.paging.specs.Calls.{fresh_cause, fresh_call, fresh_counter, stop_number, page_cause, page_call, page_table, page_counter}
 use Rattle.paging.specs.Calls.{run_cause, run_call, run_table, run_values, WorkAfter}
@@ -135,8 +135,12 @@ pub record RunHolds (s : Shape) (cells : List ℤ) {S : Type 0} (o : Overlay S) 
   pub rows : refusal ≡ 0 → rows_in s.k (length o.table) left ≡ o.table
   -- the sum of the areas, and 02, Q-6: "the union of all rows' common ground". The crate ground says what it is: `UnionHolds` of any list of rectangles
   -- (`most`, `least`: its bounds), `TableUnions` that `grounds` are those of rows, in range, and so of the rows that a timed run keeps
-  pub done : refusal ≡ 0 → told ≡ ran (length o.table) (length o.walk) (total_of (sum (map o.area o.table)))
-      (total_of (union_of (grounds (layers s cells) o.table)))
+  pub done : refusal ≡ 0 → told ≡ Ok (record {
+    rows = length o.table;
+    probes = length o.walk;
+    area = total_of (sum (map o.area o.table));
+    ground = total_of (union_of (grounds (layers s cells) o.table));
+  })
   -- the rest of the table is kept
   pub long : length left ≡ length table
   pub kept : let n = s.k * length o.table in refusal ≡ 0 → drop n left ≡ drop n table
@@ -176,7 +180,7 @@ pub record Answers : Type 0 where
   pub fresh_answer : (t : Ticket) (c : Cause) → (fresh_told (Ok t) ≡ record { number = 0; ticket = t })
       × (fresh_told (Err c) ≡ record { number = number_of c; ticket = record { cursor = no_trial; count = 0 } })
   pub stop_answer : (stop_told said.Ended ≡ Ended) × (stop_told said.Full ≡ Full) × (stop_told said.Spent ≡ Spent)
-      × ((c : Cause) → stop_told (said.Refused c) ≡ Refused (number_of c))
+      × ((n : ℕ) → stop_told (said.Refused n) ≡ Refused n)
   pub page_answer : (p : Page)
       → page_told p ≡ record { stop = stop_told p.stop; rows = p.rows; probes = p.probes; area = p.area; ticket = p.ticket }
   pub page_number : (stop_number Ended ≡ 0) × (stop_number Full ≡ 0) × (stop_number Spent ≡ 0) × ((n : ℕ) → stop_number (Refused n) ≡ n)
@@ -186,6 +190,7 @@ pub record Answers : Type 0 where
   -- 01's number and values of what a whole run answers
   pub values_of_run : (n rows probes : ℕ) (area ground : Total)
       → (run_values (Err n) ≡ record { number = n; rows = 0; probes = 0; area = total_of 0; ground = total_of 0 })
-      × (run_values (ran rows probes area ground) ≡ record { number = 0; rows = rows; probes = probes; area = area; ground = ground })
+      × (run_values (Ok (record { rows = rows; probes = probes; area = area; ground = ground }))
+      ≡ record { number = 0; rows = rows; probes = probes; area = area; ground = ground })
   -- the work buffer of a run. 02, Q-6: its "contents afterwards are free", but for its length; after a refusal it "too is then left as it was"
   pub work : (n : ℕ) (before left : List ℤ) → WorkAfter n before left ↔ ((length left ≡ length before) × (0 < n → left ≡ before))

@@ -2,7 +2,7 @@
 // calls is in the crate `demands`, the code of the calls in the crates `pager` and `runner`.
 #![tactic(auto)]
 
-use plan::{Cause, MOST_SLOTS};
+use plan::MOST_SLOTS;
 use totals::Total;
 
 // 2^57: more probes than any walk has, so a counter that a page call takes is below it.
@@ -27,13 +27,13 @@ pub struct Ticket {
     pub count: u64,
 }
 
-// Why a page stopped: no probe is left, the table is full, the budget is spent; or it was refused.
+// Why a page stopped: no probe is left, the table is full, the budget is spent; or it was refused, with the number of the cause.
 #[derive(Clone, Copy)]
 pub enum Stop {
     Ended,
     Full,
     Spent,
-    Refused(Cause),
+    Refused(u32),
 }
 
 // What the page call answers: why it stopped, how many rows it put into the table, how many probes it did, the sum of its rows'

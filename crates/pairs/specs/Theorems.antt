@@ -1,5 +1,5 @@
 -- Theorem: what the pair call answers for every sound plan and all places, for every k (02, Q-11). Proved in proofs/Theorems.antt.
-use Rattle.std.specs.Prelude.{◌≡◌, List, ◌↔◌, ◌⊎◌, ℕ, suc, ◌≤◌, ◌<◌, ℤ, length, get_or, Option, None, Result, Ok, Err}
+use Rattle.std.specs.Prelude.{◌≡◌, List, ◌↔◌, ◌⊎◌, ℕ, suc, ◌≤◌, ◌<◌, ℤ, length, get_or, Option, Some, None, Result, Ok, Err}
 use Rattle.lists.specs.Lists.{All, Pairwise}
 use Rattle.geometry.specs.declared.Rect.{Rect}
 use Rattle.geometry.specs.Rectangles.{In}
@@ -11,7 +11,7 @@ use Rattle.plan.specs.Theorems.{PlanChecks}
 use Rattle.plan.specs.Spots.{rect_of}
 use Rattle.join.specs.Join.{Within, InJoin}
 use Rattle.pairs.specs.declared.Pair.{Pair}
-use Rattle.pairs.specs.PairCall.{apart, pair_cause, pair_call, pair_values}
+use Rattle.pairs.specs.PairCall.{pair_cause, pair_call, pair_values}
 
 -- the rectangle holds a point
 abbrev pub HoldsPoint : Rect → Type 0
@@ -39,9 +39,9 @@ pub record PairHolds (ls : List Layer) (row : List ℕ) (answer : Result (Option
   -- "either that they share a point": exactly when they do
   pub share : (answer ≡ Ok None) ↔ InJoin ls row
   -- "or the first pair of layers", told from 1: exactly when it is that
-  pub first : (i j : ℕ) → (answer ≡ Ok (apart (suc i) (suc j))) ↔ IsFirstPair ls row i j
+  pub first : (i j : ℕ) → (answer ≡ Ok (Some (record { lower = suc i; higher = suc j }))) ↔ IsFirstPair ls row i j
   -- it is one of the two
-  pub either : (answer ≡ Ok None) ⊎ ((i : ℕ) × (j : ℕ) × (answer ≡ Ok (apart (suc i) (suc j))))
+  pub either : (answer ≡ Ok None) ⊎ ((i : ℕ) × (j : ℕ) × (answer ≡ Ok (Some (record { lower = suc i; higher = suc j }))))
   -- "Such a pair is there exactly when the combination has no common point"
   pub exactly : ((i : ℕ) × (j : ℕ) × IsPair ls row i j) ↔ (InJoin ls row → ⊥)
   -- "the smallest part of it that shows this": no row of J has the two rectangles of such a pair, whatever the others are ...
@@ -62,5 +62,6 @@ pub record Pairs : Type 0 where
   pub calls : (s : Shape) (cells : List ℤ) (row : List ℕ) → PairCalls s cells row
   -- the number and values of each answer; "A refusal returns its number and 0 for all else"
   pub share : pair_values (Ok None) ≡ record { number = 0; lower = 0; higher = 0 }
-  pub pair : (lower higher : ℕ) → pair_values (Ok (apart lower higher)) ≡ record { number = 0; lower = lower; higher = higher }
+  pub pair : (lower higher : ℕ)
+      → pair_values (Ok (Some (record { lower = lower; higher = higher }))) ≡ record { number = 0; lower = lower; higher = higher }
   pub refused : (cause : ℕ) → pair_values (Err cause) ≡ record { number = cause; lower = 0; higher = 0 }

@@ -123,6 +123,7 @@ plans = record {
   never = number-above;
   figures = refl;
   tells = λ n c. (refl, refl, refl, refl);
+  reads = λ f n m. (refl, refl);
   fields = fields;
   sizes = λ s j h. get_or-take s.k s.sizes j 0 h;
   causes = plan-checks;

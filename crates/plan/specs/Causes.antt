@@ -35,10 +35,14 @@ abbrev pub refusal : {A : Type 0} → Result A Cause → ℕ
 refusal (Ok a) = 0
 refusal (Err c) = number_of c
 
--- an answer with its refusal as that number
+-- an answer with its refusal, of any type, as the number that it is read as
+abbrev pub read_by : {A E : Type 0} → (E → ℕ) → Result A E → Result A ℕ
+read_by number (Ok a) = Ok a
+read_by number (Err e) = Err (number e)
+
+-- an answer with its refusal as the number of its cause
 abbrev pub by_number : {A : Type 0} → Result A Cause → Result A ℕ
-by_number (Ok a) = Ok a
-by_number (Err c) = Err (number_of c)
+by_number = read_by number_of
 
 infixl 20 ◌or_else◌
 -- the cause, unless its check is passed

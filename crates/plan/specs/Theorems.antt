@@ -7,7 +7,7 @@ use Rattle.geometry.specs.Theorems.{Ranged}
 use Rattle.plan.specs.declared.Shape.{Shape}
 use Rattle.plan.specs.declared.cause.Cause.{Cause}
 use Rattle.plan.specs.declared.cause.Cause.TheVariants as cause
-use Rattle.plan.specs.Causes.{number_of, refusal, by_number, Check, Passed}
+use Rattle.plan.specs.Causes.{number_of, refusal, read_by, by_number, Check, Passed}
 use Rattle.plan.specs.Plan.{rect_at, count, layers_of, sizes_of, grown, layers, plan_cause, Sound}
 use Rattle.plan.specs.Spots.{Spot, layer_at, Has, rect_of}
 use Rattle.plan.specs.Frames.{Framed}
@@ -54,6 +54,8 @@ pub record Plans : Type 0 where
       ≡ 1 ∷ 2 ∷ 3 ∷ 4 ∷ 5 ∷ 6 ∷ 7 ∷ 8 ∷ 9 ∷ 10 ∷ 11 ∷ 12 ∷ 13 ∷ 14 ∷ 15 ∷ 16 ∷ 17 ∷ 18 ∷ 19 ∷ 20 ∷ 21 ∷ 22 ∷ 23 ∷ 24 ∷ []
   -- an answer tells 0 and itself, a refusal the number of its cause
   pub tells : (n : ℕ) (c : Cause) → (refusal (Ok n) ≡ 0) × (refusal {A = ℕ} (Err c) ≡ number_of c) × (by_number (Ok n) ≡ Ok n) × (by_number {A = ℕ} (Err c) ≡ Err (number_of c))
+  -- a refusal that is any number is the number that it is read as
+  pub reads : (f : ℕ → ℕ) (n m : ℕ) → (read_by f (Ok n) ≡ Ok n) × (read_by {A = ℕ} f (Err m) ≡ Err (f m))
   -- "four for each rectangle: left, bottom, right, top": those of the rectangle with number p stand behind 4p cells
   pub fields : (p : ℕ) (front : List ℤ) (r : Rect) (rest : List ℤ) → length front ≡ 4 * p
       → rect_at (front ++ r.left ∷ r.bottom ∷ r.right ∷ r.top ∷ rest) p ≡ r

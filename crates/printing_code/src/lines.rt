@@ -5,7 +5,6 @@ ghost use Rattle.std.specs.Prelude.{◌≡◌, true, [], ◌∷◌, ◌++◌, �
 ghost use Rattle.decimal.specs.Numerals.{digits, decimal};
 ghost use Rattle.geometry.specs.Rectangles.{letter_of};
 ghost use Rattle.pens.specs.Pens.{RoomFor, wrote};
-ghost use Rattle.plan.specs.Causes.{number_of};
 ghost use Rattle.plan.specs.Plan.{layers_of};
 ghost use Rattle.plan.specs.Frames.{Framed};
 ghost use Rattle.rows.specs.RowCall.{is_row};
@@ -18,7 +17,6 @@ ghost use Rattle.printing.specs.inner.Parts.{tabbed};
 use geometry::Kind;
 use geometry_code::{area, letter};
 use pens::Pen;
-use plan::Cause;
 use rows_code::{row_at, row_ground};
 use speller::put_natural;
 use totals::Total;
@@ -181,10 +179,10 @@ pub fn put_table(
 
 // The REFUSED line.
 #[tactic(auto, using(pens::proofs::Pens::writing), unfolding(printing::specs::Lines::line_of))]
-pub fn put_refused(pen: &mut Pen, cause: Cause)
-    requires { RoomFor pen.old (refused_line (number_of cause)) }
-    ensures { pen.new ≡ wrote pen.old (refused_line (number_of cause)) }
+pub fn put_refused(pen: &mut Pen, cause: u32)
+    requires { RoomFor pen.old (refused_line cause) }
+    ensures { pen.new ≡ wrote pen.old (refused_line cause) }
 {
     pen.put(b"REFUSED");
-    put_last(pen, u32::from(cause) as u64);
+    put_last(pen, cause as u64);
 }

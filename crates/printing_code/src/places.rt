@@ -4,7 +4,6 @@
 ghost use Rattle.std.specs.Prelude.{◌≡◌, true, [], ◌∷◌, ◌++◌, ◌≤◌, length, take};
 ghost use Rattle.decimal.specs.Numerals.{decimal};
 ghost use Rattle.lists.specs.inner.Stores.{Put};
-ghost use Rattle.plan.specs.Causes.{number_of};
 ghost use Rattle.plan.specs.Plan.{layers_of};
 ghost use Rattle.plan.specs.Frames.{Framed};
 ghost use Rattle.rows.specs.RowCall.{is_row};
@@ -16,7 +15,6 @@ ghost use Rattle.printing.specs.inner.Parts.{FitsAt};
 
 use crate::lines;
 use pens::Pen;
-use plan::Cause;
 use totals::Total;
 
 // A tab and a number; the place behind it.
@@ -92,9 +90,9 @@ pub fn put_table(
 }
 
 // The REFUSED line; the place behind it.
-pub fn put_refused(buf: &mut [u8], at: usize, cause: Cause) -> usize
-    requires { FitsAt buf.old at (refused_line (number_of cause)) }
-    ensures { Put buf.old at (refused_line (number_of cause)) buf.new result }
+pub fn put_refused(buf: &mut [u8], at: usize, cause: u32) -> usize
+    requires { FitsAt buf.old at (refused_line cause) }
+    ensures { Put buf.old at (refused_line cause) buf.new result }
 {
     let mut pen = Pen { buf, at };
     lines::put_refused(&mut pen, cause);

@@ -59,7 +59,7 @@ fn refuse(out: &mut [u8], cause: Cause) -> Printout
     requires { room_for_any ≤ length out.old }
     ensures { Printed (number_of cause) (refused_line (number_of cause)) out.old out.new result }
 {
-    let size = put_refused(out, 0, cause);
+    let size = put_refused(out, 0, u32::from(cause));
     Printout {
         told: Err(cause),
         size,

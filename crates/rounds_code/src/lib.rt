@@ -101,7 +101,7 @@ fn refused_round(cause: Cause, tickets: [Ticket; 16]) -> Round
     Round {
         checks: Err(cause),
         next: 0,
-        pages: empty_pages(Stop::Refused(cause), tickets),
+        pages: empty_pages(Stop::Refused(u32::from(cause)), tickets),
     }
 }
 

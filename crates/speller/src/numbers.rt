@@ -7,11 +7,18 @@ ghost use Rattle.pens.specs.Pens.{RoomFor, wrote};
 
 use pens::Pen;
 
-// How many digits n has; 0 has one.
+// How many digits n has. `next` is ten to the power c + 1: each power is ten times the one before, and no table of them stands behind a call (02, Q-3).
 pub fn size_of(n: u64) -> usize
     ensures { result ≡ size 19 n }
 {
-    n.max(1).ilog10() as usize + 1
+    let mut next: u64 = 10;
+    for c in 0..18 {
+        if n < next {
+            return c + 1;
+        }
+        next *= 10;
+    }
+    if n < next { 19 } else { 20 }
 }
 
 // The digits of n from a place of the buffer on; the place behind them. The last digit is stored first, so that each

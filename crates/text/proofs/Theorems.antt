@@ -301,5 +301,6 @@ round_trip = record {
     longest = longest s plan;
   };
   refused = λ t cells n e. (rw e, rw e);
+  read = λ s n. (refl, refl);
   values = λ n. (refl, refl, refl, refl);
 }

@@ -76,5 +76,9 @@ pub record RoundTrip : Type 0 where
       read_cause (length cells) t ≡ suc n
       → (read_values (read_answer (length cells) t) ≡ record { number = suc n; shape = record { k = 0; sizes = zeros; margins = zeros } })
       × (cells_after t cells ≡ cells)
+  -- the number and the shape that the reader's answers stand for
+  pub read : (s : Shape) (n : ℕ) → let zeros : List ℕ = 0 ∷ 0 ∷ 0 ∷ 0 ∷ 0 ∷ 0 ∷ [] in
+      (read_values (Ok s) ≡ record { number = 0; shape = s })
+      × (read_values (Err n) ≡ record { number = n; shape = record { k = 0; sizes = zeros; margins = zeros } })
   -- the number and the length that the writer's answers stand for
   pub values : (n : ℕ) → (number_said (Ok n) ≡ 0) × (length_of (Ok n) ≡ n) × (number_said (Err n) ≡ n) × (length_of (Err n) ≡ 0)

@@ -8,7 +8,7 @@ use Rattle.survey.specs.declared.Strip.{Strip}
 use Prim.Native.Nat.{ℕ}
 use Rattle.std.specs.Prelude.{Result, Ok, Err}
 use Rattle.plan.specs.declared.cause.Cause.{Cause}
-use Rattle.plan.specs.Causes.{refusal, by_number}
+use Rattle.plan.specs.Causes.{number_of, refusal, by_number}
 use Rattle.text.specs.Writer.{length_of}
 use Rattle.survey.specs.CoverCall.{CoverValues, cover_cause, cover_answer, cover_values, cover_after}
 use Rattle.capi.proofs.overlay_cover_records.Goals as goal
@@ -36,4 +36,4 @@ pub returns : goal.returns
 returns c =
     let k = c.cover_records-answer.ensures in
     let e = covered-as c.args.corners.now c.args.cells.now _ (by_number c.cover_records-answer.result) c.strip_in-across.ensures c.strip_in-upward.ensures (k.answer, (k.values, (k.number, k.buffer))) in
-    (c.number_of.ensures ∙ number c.cover_records-answer.result ∙ e.1.1.0, c.size_in.ensures ∙ kept (by_number c.cover_records-answer.result) ∙ ap (λ (v : CoverValues). v.kept) e.1.0, e.1.1.1)
+    (c.number_of.ensures ∙ number c.cover_records-answer.result ∙ e.1.1.0, c.size_in.ensures number_of ∙ kept (by_number c.cover_records-answer.result) ∙ ap (λ (v : CoverValues). v.kept) e.1.0, e.1.1.1)

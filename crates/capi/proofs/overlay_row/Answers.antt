@@ -3,7 +3,7 @@ use mathlib.Core.Path.{◌≡◌, refl, ap, ◌∙◌}
 use Prim.Native.Nat.{ℕ}
 use Rattle.std.specs.Prelude.{Option, Some, None, Result, Ok, Err}
 use Rattle.plan.specs.declared.cause.Cause.{Cause}
-use Rattle.plan.specs.Causes.{refusal, by_number}
+use Rattle.plan.specs.Causes.{number_of, refusal, by_number}
 use Rattle.rows.specs.declared.Row.{Row}
 use Rattle.rows.specs.RowCall.{row_values}
 use Rattle.c_cells.specs.Cells.{row_cells}
@@ -18,4 +18,4 @@ number (Err c) = refl
 pub returns : goal.returns
 returns c =
     let answer = c.row-told.ensures.answer in
-    (c.number_of.ensures ∙ number _ ∙ ap (λ (r : Result (Option Row) ℕ). (row_values r).number) answer, c.row_cells.ensures ∙ ap (λ (r : Result (Option Row) ℕ). row_cells (row_values r)) answer)
+    (c.number_of.ensures ∙ number _ ∙ ap (λ (r : Result (Option Row) ℕ). (row_values r).number) answer, c.row_cells.ensures number_of ∙ ap (λ (r : Result (Option Row) ℕ). row_cells (row_values r)) answer)

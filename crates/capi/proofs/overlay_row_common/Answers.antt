@@ -3,7 +3,7 @@ use mathlib.Core.Path.{◌≡◌, refl, ap, ◌∙◌}
 use Prim.Native.Nat.{ℕ}
 use Rattle.std.specs.Prelude.{Option, Some, None, Result, Ok, Err}
 use Rattle.plan.specs.declared.cause.Cause.{Cause}
-use Rattle.plan.specs.Causes.{refusal, by_number}
+use Rattle.plan.specs.Causes.{number_of, refusal, by_number}
 use Rattle.rows.specs.declared.CommonGround.{CommonGround}
 use Rattle.rows.specs.RowCall.{common_values}
 use Rattle.c_cells.specs.Cells.{common_cells}
@@ -18,4 +18,4 @@ number (Err c) = refl
 pub returns : goal.returns
 returns c =
     let answer = c.row_common-told.ensures.answer in
-    (c.number_of.ensures ∙ number _ ∙ ap (λ (r : Result (Option CommonGround) ℕ). (common_values r).number) answer, c.common_cells.ensures ∙ ap (λ (r : Result (Option CommonGround) ℕ). common_cells (common_values r)) answer)
+    (c.number_of.ensures ∙ number _ ∙ ap (λ (r : Result (Option CommonGround) ℕ). (common_values r).number) answer, c.common_cells.ensures number_of ∙ ap (λ (r : Result (Option CommonGround) ℕ). common_cells (common_values r)) answer)

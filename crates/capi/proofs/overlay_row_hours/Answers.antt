@@ -3,7 +3,7 @@ use mathlib.Core.Path.{◌≡◌, refl, ap, ◌∙◌}
 use Prim.Native.Nat.{ℕ}
 use Rattle.std.specs.Prelude.{Option, Some, None, Result, Ok, Err}
 use Rattle.plan.specs.declared.cause.Cause.{Cause}
-use Rattle.plan.specs.Causes.{refusal, by_number}
+use Rattle.plan.specs.Causes.{number_of, refusal, by_number}
 use Rattle.windows.specs.declared.Window.{Window}
 use Rattle.windows.specs.HoursCall.{hours_values}
 use Rattle.c_cells.specs.Cells.{hours_cells}
@@ -18,4 +18,4 @@ number (Err c) = refl
 pub returns : goal.returns
 returns c =
     let answer = c.row_hours-told.ensures.answer in
-    (c.number_of.ensures ∙ number _ ∙ ap (λ (r : Result (Option Window) ℕ). (hours_values r).number) answer, c.hours_cells.ensures ∙ ap (λ (r : Result (Option Window) ℕ). hours_cells (hours_values r)) answer)
+    (c.number_of.ensures ∙ number _ ∙ ap (λ (r : Result (Option Window) ℕ). (hours_values r).number) answer, c.hours_cells.ensures number_of ∙ ap (λ (r : Result (Option Window) ℕ). hours_cells (hours_values r)) answer)

@@ -3,7 +3,7 @@ use mathlib.Core.Path.{◌≡◌, refl, ap, ◌∙◌}
 use Prim.Native.Nat.{ℕ}
 use Rattle.std.specs.Prelude.{Option, Some, None, Result, Ok, Err}
 use Rattle.plan.specs.declared.cause.Cause.{Cause}
-use Rattle.plan.specs.Causes.{refusal, by_number}
+use Rattle.plan.specs.Causes.{number_of, refusal, by_number}
 use Rattle.paging.specs.declared.Done.{Done}
 use Rattle.paging.specs.Calls.{run_values}
 use Rattle.c_cells.specs.Cells.{run_cells}
@@ -17,4 +17,4 @@ number (Err c) = refl
 pub returns : goal.returns
 returns c =
     let k = c.run_all-run.ensures in
-    (c.number_of.ensures ∙ number _ ∙ ap (λ (r : Result Done ℕ). (run_values r).number) k.answer, c.run_cells.ensures ∙ ap (λ (r : Result Done ℕ). run_cells (run_values r)) k.answer, k.table, k.work)
+    (c.number_of.ensures ∙ number _ ∙ ap (λ (r : Result Done ℕ). (run_values r).number) k.answer, c.run_cells.ensures number_of ∙ ap (λ (r : Result Done ℕ). run_cells (run_values r)) k.answer, k.table, k.work)

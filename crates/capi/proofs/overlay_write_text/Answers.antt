@@ -3,7 +3,7 @@ use mathlib.Core.Path.{◌≡◌, refl, ap, ◌∙◌}
 use Prim.Native.Nat.{ℕ}
 use Rattle.std.specs.Prelude.{Option, Some, None, Result, Ok, Err}
 use Rattle.plan.specs.declared.cause.Cause.{Cause}
-use Rattle.plan.specs.Causes.{refusal, by_number}
+use Rattle.plan.specs.Causes.{number_of, refusal, by_number}
 use Rattle.text.specs.Writer.{number_said}
 use Rattle.capi.proofs.overlay_write_text.Goals as goal
 
@@ -13,4 +13,4 @@ number (Ok a) = refl
 number (Err c) = refl
 
 pub returns : goal.returns
-returns c = let k = c.write-writing.ensures in (c.number_of.ensures ∙ number _ ∙ k.number, c.size_in.ensures ∙ k.length, k.buffer)
+returns c = let k = c.write-writing.ensures in (c.number_of.ensures ∙ number _ ∙ k.number, c.size_in.ensures number_of ∙ k.length, k.buffer)

@@ -14,7 +14,7 @@ returns-in-Ok c =
     rw c.done.ensures (told-plan _ _ c.requires.0 _ c.requires.1 (ap read_values r.answer) r.number _ _ c.requires.2 _ _ refl c.put_plan.ensures)
 
 pub put_refused-m-requires : goal.put_refused-m-requires
-put_refused-m-requires c = search (rules, refused-room)
+put_refused-m-requires c = rw c.from.ensures (search (rules, refused-room))
 
 pub put_why-n-requires : goal.put_why-n-requires
 put_why-n-requires c = (most-cause _ _ _ c.in-Err.ensures.number c.requires.1, c.requires.0, search rules)
@@ -22,4 +22,4 @@ put_why-n-requires c = (most-cause _ _ _ c.in-Err.ensures.number c.requires.1, c
 pub returns-in-Err : goal.returns-in-Err
 returns-in-Err c =
     let r = c.in-Err.ensures in
-    rw c.refused.ensures (told-why _ _ c.requires.0 _ c.requires.1 (ap read_values r.answer) r.number _ _ c.requires.2 _ _ _ _ (number-above _) c.put_refused-m.ensures c.put_why-n.ensures)
+    rw c.refused.ensures (told-why _ _ c.requires.0 _ c.requires.1 (ap read_values r.answer) r.number _ _ c.requires.2 _ _ _ _ (number-above _) (rw c.from.ensures at c.put_refused-m.ensures) c.put_why-n.ensures)

@@ -1,4 +1,4 @@
--- Facts over lists have one proof at most.
+-- Facts over lists have one proof at most; no public call's contract cites this.
 use Rattle.std.specs.Prelude.{List, [], ◌∷◌, refl}
 use Rattle.std.proofs.Math.Path.{ap₂}
 use Rattle.lists.specs.Lists.{All, none_left, ◌and◌}

@@ -2,4 +2,4 @@
 use Rattle.pager.proofs.answers.refused_page.Goals as goal
 
 pub returns : goal.returns
-returns c = rw c.nothing.ensures
+returns c = rw (c.from.ensures, c.nothing.ensures)
